@@ -1,0 +1,4 @@
+pub mod Parts
+pub mod File
+pub mod First
+pub mod Loads
