@@ -1,4 +1,5 @@
 //! `grafcet` alone: a code file is loaded and listed, and damaged copies of it are refused.
+use crate::cause::cause_of;
 use crate::damage::Damage;
 use crate::damage::DamageDisplay;
 use crate::damage::try_damaged;
@@ -30,7 +31,7 @@ fn print_answer(rt: &LibcRuntime, answer: Option<FileFault>) -> io::Result<()> {
     match answer {
         Some(e) => {
             let fault = Fault::from(e);
-            let cause = fault.cause();
+            let cause = cause_of(fault);
             println!(rt, "        refused {fault}: {cause}")
         }
         None => println!(rt, "        accepted"),

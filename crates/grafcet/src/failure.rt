@@ -1,6 +1,7 @@
 //! Why a command fails.
 ghost use mathlib.Core.Path.{_≡_};
 ghost use Rattle.grafcet.specs.declared.failure.Failure.the-variants.{Unwritable as IsUnwritable, OutOfMemory as IsOutOfMemory};
+use crate::cause::cause_of;
 use faults::Fault;
 use std::alloc::AllocError;
 use std::fmt;
@@ -29,7 +30,7 @@ pub impl fmt::Display for Failure as FailureDisplay {
             Failure::Unreadable(error) => write!(f, "cannot be read: {error}"),
             Failure::Refused(fault) => {
                 let place = fault.place();
-                let cause = fault.cause();
+                let cause = cause_of(*fault);
                 write!(f, "byte {place}: {cause}")
             }
             Failure::Unwritable(error) => write!(f, "the output cannot be written: {error}"),

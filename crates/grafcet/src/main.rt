@@ -4,6 +4,7 @@ ghost use mathlib.Core.List.{map};
 ghost use Rattle.std.specs.Of.String.{string-bytes};
 ghost use Rattle.grafcet.specs.Commands.{Asks};
 
+mod cause;
 mod damage;
 mod demo;
 mod example;
