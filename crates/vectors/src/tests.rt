@@ -1,6 +1,8 @@
 //! Each refusal of a code file at its place, and one past each limit.
+use crate::files::*;
 use crate::ladder::climb;
-use crate::*;
+use codefile::program::Program;
+use faults::Fault;
 use faults::FaultDebug;
 use faults::FaultPartialEq;
 use faults::FileFault;
@@ -9,7 +11,9 @@ use faults::LayerDebug;
 use faults::LayerPartialEq;
 use faults::Section;
 use faults::TextFault;
+use std::alloc::Global;
 use std::test::*;
+use words::instruction::Part;
 
 // A file by its parts, and the fault that it should have.
 #[derive(Clone, Copy)]
