@@ -17,6 +17,7 @@ use Rattle.codefile.specs.declared.directory.Layout.{Layout}
 use Rattle.codefile.specs.Parts.{Stretch, chain, scanned, judged}
 use Rattle.codefile.specs.File.{Regular, layoutOf, wordsOf, clearBytes, enterBytes, holdBytes, stretches, checked}
 use Rattle.codefile.specs.First.{WordAt, Misplaced, FaultIn, FaultOf, NoLater, First, FirstFault, verdict}
+use Rattle.codefile.proofs.Verdicts.{ok-is}
 use Rattle.codefile.proofs.WordFaults.{MisplacedFrom, FaultFrom, Owed, Faults, Scans, fault-cases, reaches, scans}
 
 -- ---- one part, no bracket being open before it
@@ -128,11 +129,8 @@ first-fault bs l r =
     (λ g f. inr f)
     (checked bs l) (judges false 44 (length bs) (stretches bs l) (consecutive bs l r))
 
-same-layout : (l m : Layout) → _≡_ {A = Result Layout FileFault} (Ok l) (Ok m) → l ≡ m
-same-layout l m e = cc
-
 -- so is every answer that accepts or refuses as the judgement of the file's words does
 pub answers-first : {A : Type 0} (bs : List ℕ) (l : Layout) → layoutOf bs ≡ Ok l → Regular (length bs) l → (r : Result A FileFault) → verdict r ≡ checked bs l → FirstFault bs r
 answers-first bs l read regular r e m other =
     let A : Layout → Type 0 = λ k. First (FaultOf (stretches bs k)) (verdict r) in
-    subst A (same-layout l m (sym read ∙ other)) (subst (First (FaultOf (stretches bs l))) (sym e) (first-fault bs l regular))
+    subst A (ok-is l m (sym read ∙ other)) (subst (First (FaultOf (stretches bs l))) (sym e) (first-fault bs l regular))

@@ -18,9 +18,7 @@ use Rattle.faults.specs.declared.FileFault.the-variants.{TooShort, NoMark, BadP
 use Rattle.codefile.specs.declared.directory.Directory.{Directory}
 use Rattle.codefile.specs.declared.directory.Layout.{Layout}
 use Rattle.codefile.specs.File.{marked, directoryOf, end, follows, brokenPair, tooMany, layoutIn, layoutOf, Regular}
-
-refused-not : {A : Type 0} (e : FileFault) (x : A) → _≡_ {A = Result A FileFault} (Err e) (Ok x) → ⊥
-refused-not e x h = let z : _≡_ {A = ℕ} 0 1 = cc in omega arith
+use Rattle.codefile.proofs.Verdicts.{refused-not, ok-is}
 
 some-not : (s : Section) → _≡_ {A = Option Section} (Some s) None → ⊥
 some-not s h = let z : _≡_ {A = ℕ} 0 1 = cc in omega arith
@@ -39,9 +37,6 @@ unbroken false o s h = absurd (some-not s h)
 
 abbrev pub lengths : Directory → Layout
 lengths d = record { clear = d .clear .length; enter = d .enter .length; hold = d .hold .length }
-
-ok-is : {A : Type 0} (x y : A) → _≡_ {A = Result A FileFault} (Ok x) (Ok y) → x ≡ y
-ok-is x y e = cc
 
 -- the layout is the directory's, no pair is broken, and there are few words
 inside : (d : Directory) (o : Option Section) (l : Layout) → layoutIn d o ≡ Ok l → (o ≡ None) × (tooMany d ≡ false) × (lengths d ≡ l)

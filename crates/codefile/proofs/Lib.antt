@@ -1,3 +1,4 @@
+pub mod Verdicts
 pub mod Directories
 pub mod Layouts
 pub mod Scans

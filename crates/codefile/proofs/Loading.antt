@@ -3,7 +3,6 @@ use mathlib.Core.Path.{_≡_, refl, ap, _∙_}
 use mathlib.Core.Bool.{Bool, true, false, cond}
 use mathlib.Core.List.{List}
 use Prim.Native.Nat.{ℕ, _+_}
-use native.Mathlib.Omega.{arith}
 use lib.ListN.{length}
 use Rattle.std.specs.declared.result.Result.{Result}
 use Rattle.std.specs.declared.result.Result.the-variants.{Ok, Err}
@@ -14,14 +13,15 @@ use Rattle.words.specs.Brackets.{sound}
 use Rattle.faults.specs.declared.FileFault.the-variants.{Unbalanced}
 use Rattle.codefile.specs.Parts.{chain, scanned}
 use Rattle.codefile.specs.File.{layoutOf, checked, wordsOf, clearBytes, enterBytes, holdBytes, acceptedLayout}
+use Rattle.codefile.proofs.Verdicts.{refused-not}
 use Rattle.codefile.proofs.Scans.{scan-sound}
 
 chain-ok : {A B : Type 0} (r : Result A FileFault) (f : A → Result B FileFault) (y : B) → chain r f ≡ Ok y → (x : A) × (r ≡ Ok x) × (f x ≡ Ok y)
 chain-ok (Ok x) f y e = (x, refl, e)
-chain-ok (Err d) f y e = absurd (let z : _≡_ {A = ℕ} 0 1 = cc in omega arith)
+chain-ok (Err d) f y e = absurd (refused-not d y e)
 
 last : (b : Bool) (f : FileFault) → _≡_ {A = Result (Unit {0}) FileFault} (cond b (Err f) (Ok tt)) (Ok tt) → b ≡ false
-last true f e = absurd (let z : _≡_ {A = ℕ} 0 1 = cc in omega arith)
+last true f e = absurd (refused-not f tt e)
 last false f e = refl
 
 pub record Sound (bs : List ℕ) (l : Layout) : Type 0 where

@@ -9,15 +9,14 @@ use lib.Dec.{ltb, eqb}
 use lib.ListN.{length, take, drop}
 use Rattle.std.proofs.shelf.Lists.{take-rest, append-assoc}
 use Rattle.std.proofs.shelf.Tests.{cond-true, cond-false, cases-bool, or-parts, and-from, not-from-false, ltb-false, eq-eqb}
-use Rattle.std.specs.declared.result.Result.{Result}
 use Rattle.std.specs.declared.result.Result.the-variants.{Ok, Err}
-use Rattle.faults.specs.declared.FileFault.{FileFault}
 use Rattle.words.specs.declared.instruction.Part.{Part}
 use Rattle.words.specs.Words.{lawful}
 use Rattle.words.specs.Brackets.{spoils, after, sound}
 use Rattle.faults.specs.declared.FileFault.the-variants.{Unbalanced}
 use Rattle.codefile.specs.Parts.{scanned}
 use Rattle.codefile.specs.File.{le32, leAt, wordsOf}
+use Rattle.codefile.proofs.Verdicts.{refused-not, ok-is}
 
 -- the first word, and the rest as the checker reads it
 pub words-more : (xs : List ℕ) → 4 ≤ length xs → wordsOf xs ≡ leAt xs 0 ∷ wordsOf (take (length xs - 4) (drop 4 xs))
@@ -52,23 +51,17 @@ words-push xs done next w h e f =
 zero-depth : (depth : ℕ) → ltb 0 depth ≡ false → eqb depth 0 ≡ true
 zero-depth depth e = eq-eqb depth 0 (omega (arith, ltb-false 0 depth e))
 
-ok-is : (b : Bool) → _≡_ {A = Result Bool FileFault} (Ok b) (Ok false) → b ≡ false
-ok-is b e = cc
-
-err-not : (f : FileFault) → _≡_ {A = Result Bool FileFault} (Err f) (Ok false) → ⊥
-err-not f e = let z : _≡_ {A = ℕ} 0 1 = cc in omega arith
-
 -- a scan that ends with no bracket open began with none owed, and the words are sound
 pub scan-sound : (p : Part) (at : ℕ) (owed : Bool) (depth : ℕ) (ws : List ℕ) → scanned p at owed depth ws ≡ Ok false → (owed ≡ false) × (sound p depth ws ≡ true)
-scan-sound p at owed depth [] e = let none = or-parts owed (ltb 0 depth) (ok-is (owed || ltb 0 depth) e) in (none .0, zero-depth depth (none .1))
+scan-sound p at owed depth [] e = let none = or-parts owed (ltb 0 depth) (ok-is (owed || ltb 0 depth) false e) in (none .0, zero-depth depth (none .1))
 scan-sound p at owed depth (w ∷ ws) e =
     ⊎-elim
     (λ good. ⊎-elim
-    (λ bad. absurd (err-not _ (sym (cond-true (lawful p w) _ _ good ∙ cond-true (owed || spoils depth w) _ _ bad) ∙ e)))
+    (λ bad. absurd (refused-not _ false (sym (cond-true (lawful p w) _ _ good ∙ cond-true (owed || spoils depth w) _ _ bad) ∙ e)))
     (λ fine.
     let none = or-parts owed (spoils depth w) fine in
     let rest = scan-sound p (at + 4) false (after depth w) ws (sym (cond-true (lawful p w) _ _ good ∙ cond-false (owed || spoils depth w) _ _ fine) ∙ e) in
     (none .0, and-from _ _ good (and-from _ _ (not-from-false (spoils depth w) (none .1)) (rest .1))))
     (cases-bool (owed || spoils depth w)))
-    (λ bad. absurd (err-not _ (sym (cond-false (lawful p w) _ _ bad) ∙ e)))
+    (λ bad. absurd (refused-not _ false (sym (cond-false (lawful p w) _ _ bad) ∙ e)))
     (cases-bool (lawful p w))
