@@ -7,21 +7,21 @@ use std::alloc::Global;
 use words::codec::is_lawful;
 use words::instruction::Part;
 
-pub const NOT: u32 = 0x0a00_0000;
+pub(crate) const NOT: u32 = 0x0a00_0000;
 
-pub const AND_OPEN: u32 = 0x0700_0000;
+pub(crate) const AND_OPEN: u32 = 0x0700_0000;
 
-pub const OR_OPEN: u32 = 0x0800_0000;
+pub(crate) const OR_OPEN: u32 = 0x0800_0000;
 
-pub const CLOSE: u32 = 0x0900_0000;
+pub(crate) const CLOSE: u32 = 0x0900_0000;
 
-pub const LD_X0: u32 = 0x0120_0000;
+pub(crate) const LD_X0: u32 = 0x0120_0000;
 
-pub const ST_T0: u32 = 0x0b70_0000;
+pub(crate) const ST_T0: u32 = 0x0b70_0000;
 
-pub const S_Q0: u32 = 0x0c30_0000;
+pub(crate) const S_Q0: u32 = 0x0c30_0000;
 
-pub const S_H0: u32 = 0x0c90_0000;
+pub(crate) const S_H0: u32 = 0x0c90_0000;
 
 fn push_number(file: &mut Vec<u8>, n: u32) -> Result<(), AllocError> {
     file.extend_from_slice(&n.to_le_bytes())
@@ -35,7 +35,7 @@ fn push_words(file: &mut Vec<u8>, words: &[u32]) -> Result<(), AllocError> {
 }
 
 /// A file with these twelve numbers behind its mark: four pairs, and the initial steps in two halves.
-pub fn with_head(heap: Global, head: &[u32], words: &[u32]) -> Result<Vec<u8>, AllocError> {
+pub(crate) fn with_head(heap: Global, head: &[u32], words: &[u32]) -> Result<Vec<u8>, AllocError> {
     let mut file = Vec::new(heap);
     file.extend_from_slice(b"SRI1")?;
     push_words(&mut file, head)?;
@@ -52,7 +52,7 @@ fn push_pair(head: &mut Vec<u32>, offset: u32, words: &[u32]) -> Result<u32, All
 }
 
 /// A file of these parts, with step 0 as its initial step.
-pub fn file_of(
+pub(crate) fn file_of(
     heap: Global,
     clear: &[u32],
     enter: &[u32],
@@ -73,12 +73,12 @@ pub fn file_of(
 }
 
 /// So many times one word.
-pub fn times(heap: Global, n: usize, word: u32) -> Result<Vec<u32>, AllocError> {
+pub(crate) fn times(heap: Global, n: usize, word: u32) -> Result<Vec<u32>, AllocError> {
     vec![in heap; word; n]
 }
 
 /// So many opening words, and then as many closing ones.
-pub fn nested(heap: Global, n: usize, open: u32) -> Result<Vec<u32>, AllocError> {
+pub(crate) fn nested(heap: Global, n: usize, open: u32) -> Result<Vec<u32>, AllocError> {
     let mut words = times(heap, n, open)?;
     let closing = times(heap, n, CLOSE)?;
     words.extend_from_slice(&closing)?;
@@ -86,7 +86,7 @@ pub fn nested(heap: Global, n: usize, open: u32) -> Result<Vec<u32>, AllocError>
 }
 
 /// The fault of a file, or None where it is accepted.
-pub fn fault_of(program: &mut Program, file: &[u8]) -> Option<Fault> {
+pub(crate) fn fault_of(program: &mut Program, file: &[u8]) -> Option<Fault> {
     match program.load(file) {
         Ok(()) => None,
         Err(e) => Some(Fault::from(e)),
@@ -108,7 +108,7 @@ fn lawful_with(part: Part, operator: u32) -> u32 {
 }
 
 /// How many words are lawful in a part.
-pub fn lawful_in(part: Part) -> u32 {
+pub(crate) fn lawful_in(part: Part) -> u32 {
     let mut n = 0u32;
     for operator in 0..256u32 {
         n = n.saturating_add(lawful_with(part, operator));
