@@ -34,7 +34,7 @@ fn push_words(file: &mut Vec<u8>, words: &[u32]) -> Result<(), AllocError> {
     Ok(())
 }
 
-/// A file with these twelve numbers behind its mark: four pairs, and the initial steps in two halves.
+/// A file with these numbers behind its mark, ten in all: four pairs, and the initial steps in two halves.
 pub(crate) fn with_head(heap: Global, head: &[u32], words: &[u32]) -> Result<Vec<u8>, AllocError> {
     let mut file = Vec::new(heap);
     file.extend_from_slice(b"SRI1")?;
