@@ -1,4 +1,6 @@
 //! The checks of a chart: what a text that is read may still get wrong.
+#![tactic(auto)]
+
 pub mod checker;
 mod note;
 mod passes;

@@ -1,4 +1,6 @@
 //! Code files: the initial steps and the three parts of a program, read from bytes and written.
+#![tactic(auto)]
+
 mod contents;
 mod directory;
 mod load;

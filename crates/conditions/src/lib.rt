@@ -1,3 +1,5 @@
 //! Conditions: their trees, their words, and the readers that emit them.
+#![tactic(auto)]
+
 pub mod condition;
 pub mod tree;

@@ -2,6 +2,8 @@
 //!
 //! Each layer has an enum of its own causes. A layer's fault holds the fault of the layer below, and `?` carries it up
 //! by `From`. `Fault` is what a caller meets at the top: its layer, number and place are those of the cause.
+#![tactic(auto)]
+
 ghost use Rattle.std.specs.Prelude.{◌≡◌};
 ghost use Rattle.faults.specs.declared.ChartFault.TheVariants.{Text as OfText};
 ghost use Rattle.faults.specs.declared.CodeFault.TheVariants.{Chart as OfChart};

@@ -1,4 +1,6 @@
 //! The program `grafcet`, see docs/program.md.
+#![tactic(auto)]
+
 ghost use Rattle.std.specs.Prelude.{◌≡◌, map, string_bytes};
 ghost use Rattle.grafcet.specs.Commands.{Asks};
 

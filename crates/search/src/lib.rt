@@ -1,4 +1,6 @@
 //! One search for the earliest equal entry, over every kind whose sameness is equality.
+#![tactic(auto)]
+
 ghost use Rattle.std.specs.Prelude.{◌≡◌, Bool, true, ◌==◌};
 ghost use Rattle.search.specs.Earliest.{Earliest};
 ghost use Rattle.std.proofs.Common.{rules};

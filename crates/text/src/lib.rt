@@ -1,4 +1,6 @@
 //! The tokens of a chart text.
+#![tactic(auto)]
+
 mod cut;
 mod piece;
 pub mod table;

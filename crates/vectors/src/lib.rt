@@ -1,4 +1,6 @@
 //! Tests: chart texts and code files at each limit and one past it, and a fault on its way up.
+#![tactic(auto)]
+
 #[cfg(test)]
 mod files;
 pub mod ladder;

@@ -1,13 +1,12 @@
 //! From instructions to words and back.
-ghost use Rattle.std.specs.Prelude.{◌≡◌, ℕ, ◌+◌, ◌<◌, true, false, Some};
+ghost use Rattle.std.specs.Prelude.{◌≡◌, ℕ, ◌+◌, ◌<◌, ◌^◌, true, false, Some};
 ghost use Rattle.words.specs.declared.instruction.Instruction.{Instruction as AnInstruction};
 ghost use Rattle.words.specs.Words.{packed as packing, operand_area, operand_number, target_area, target_number, number_in, word_of, admitted, encoded, pairs, numbers, lawful, operand_at, target_at, instruction_of, decoded};
 
 use crate::instruction::{Instruction, Operand, Part, Target};
 
 fn packed(operator: u8, area: u8, number: u8) -> u32
-    requires small { number < 64 }
-    requires few { area < 16 }
+    requires { packing operator area number < 2 ^ 32 }
     ensures { result ≡ packing operator area number }
 {
     ((operator as u32) << 24) + ((area as u32) << 20) + ((number as u32) << 14)
@@ -97,7 +96,6 @@ impl Instruction {
     }
 
     pub(crate) fn word(self) -> u32
-        requires { number_in self < 64 }
         ensures { result ≡ word_of self }
     {
         match self {

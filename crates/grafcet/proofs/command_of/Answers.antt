@@ -11,19 +11,19 @@ pub returns-in-len3 : goal.returns-in-len3
 returns-in-len3 c = (
   simp length-map (omega (arith, ltb-true, ltb-false)),
   get_or-map _ c.args.args.now 1 c.word-item.result _ (omega (arith, ltb-false))
-      ∙ ap string_bytes (sym c.word-item.is) ∙ sym c.as-str.ensures.value ∙ c.eq.ensures.0 c.if-eq.true,
-  c.as-str-in-len3.ensures.value ∙ ap string_bytes c.path-item.is
+      ∙ ap string_bytes (sym c.word-item.is) ∙ sym c.as_str.ensures.value ∙ c.eq.ensures.0 c.if-eq.true,
+  c.as_str-in-len3.ensures.value ∙ ap string_bytes c.path-item.is
       ∙ sym (get_or-map _ c.args.args.now 2 c.path-item.result _ (omega (arith, ltb-false))),
 )
 
-pub returns-in-default : goal.returns-in-default
-returns-in-default c =
-    elim c.in-default.branch [
+pub returns-in_default : goal.returns-in_default
+returns-in_default c =
+    elim c.in_default.branch [
       | in-default-via-then-args-lt3 w ↦ (simp length-map (omega (arith, ltb-false)), λ h e. let n = simp length-map at h in omega (arith, ltb-true))
       | in-default-via-in-len3+else-eq w ↦ (
         simp length-map (omega (arith, ltb-false)),
         λ h e. not_from_Decides _ w.eq.ensures w.if-eq.false
-            (w.as-str.ensures.value ∙ ap string_bytes w.word-item.is
+            (w.as_str.ensures.value ∙ ap string_bytes w.word-item.is
             ∙ sym (get_or-map _ c.args.args.now 1 w.word-item.result _ (omega (arith, ltb-false))) ∙ e),
       )
       | in-default-via-else-args-lt3+else-args-lt4 w ↦

@@ -9,4 +9,4 @@ returns-in-Step c = λ t ls shown knows.
     (subst (λ l. Shows l t) c.in-Step.is shown) c.add.ensures.numbers knows
 
 pub returns : goal.returns
-returns c = λ t ls shown knows. knows_other (vec_items c.args.declared.now.numbers) ls c.args.line t shown c.in-default.not-Step knows
+returns c = λ t ls shown knows. knows_other (vec_items c.args.declared.now.numbers) ls c.args.line t shown c.in_default.not-Step knows

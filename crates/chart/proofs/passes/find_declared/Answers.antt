@@ -6,21 +6,21 @@ use Rattle.chart.proofs.LinePasses.{shows_small, initial_push}
 use Rattle.chart.proofs.passes.find_declared.Goals as goal
 
 pub declare-initial-requires : goal.declare-initial-requires
-declare-initial-requires c = let r = c.in-ok-line.ensures.reads in shows_small c.in-ok-line.line r.tree r.shown r.fits
+declare-initial-requires c = let r = c.in_ok-line.ensures.reads in shows_small c.in_ok-line.line r.tree r.shown r.fits
 
-pub returns-in-err-line : goal.returns-in-err-line
-returns-in-err-line c =
+pub returns-in_err-line : goal.returns-in_err-line
+returns-in_err-line c =
     let p = err_from_is_err_and c.from-residual.result c.from-residual.ensures.1 in
     rw (p.1, p.2)
-    (left_fails c.args.tokens.now c.loop-rest.rest.now c.args.end c.loop-rest.invariant.0 c.in-err-line.field-0.0 c.loop-rest.invariant.1 c.loop-rest-test.true c.in-err-line.ensures.reads)
+    (left_fails c.args.tokens.now c.loop-rest.rest.now c.args.end c.loop-rest.invariant.0 c.in_err-line.field-0.0 c.loop-rest.invariant.1 c.loop-rest-test.true c.in_err-line.ensures.reads)
 
 pub loop-rest-preserved : goal.loop-rest-preserved
 loop-rest-preserved c =
-    let r = c.in-ok-line.ensures.reads in
+    let r = c.in_ok-line.ensures.reads in
     let ls = c.loop-rest.invariant.0 in
     let d = c.declare-initial.ensures r.tree ls r.shown c.loop-rest.invariant.3 in (
       ls ++ r.tree ∷ [],
-      left_less c.args.tokens.now c.loop-rest.rest.now c.in-ok-line.after.now c.args.end ls r.tree c.loop-rest.invariant.1 c.loop-rest-test.true r.is,
+      left_less c.args.tokens.now c.loop-rest.rest.now c.in_ok-line.after.now c.args.end ls r.tree c.loop-rest.invariant.1 c.loop-rest-test.true r.is,
       ap (λ b. c.loop-rest.initial || b) d.0 ∙ (ap (λ b. b || is_initial r.tree) c.loop-rest.invariant.2 ∙ sym (initial_push ls r.tree)),
       d.1,
     )

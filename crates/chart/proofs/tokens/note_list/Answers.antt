@@ -13,17 +13,17 @@ loop-t-preserved c =
     let i = c.loop-t.t-index in
     let before = c.loop-t.invariant.0 in
     let knows = c.loop-t.invariant.1 in
-    elim c.match-number-of.branch [
+    elim c.match-number_of.branch [
       | in-Some w ↦
           let n = w.in-Some.n in
-          let notes = w.note-listing.ensures before knows in (
+          let notes = w.note_listing.ensures before knows in (
             n ∷ before,
             λ m. ap (λ set. member m.value (vec_items set.numbers)) w.listed-is ∙ notes.1 m,
-            listed_next before n c.loop-t.first c.match-number-of.first _ (numbers_in (drop i ts)) (numbers_in (drop (i + 1) ts))
+            listed_next before n c.loop-t.first c.match-number_of.first _ (numbers_in (drop i ts)) (numbers_in (drop (i + 1) ts))
                 (numbers_next ts i _ (n ∷ []) c.loop-t-test.true w.in-Some.ensures) (w.first-is ∙ notes.0) c.loop-t.invariant.2,
           )
       | in-default w ↦
-          let same = numbers_next ts i _ [] c.loop-t-test.true w.in-default.ensures in (
+          let same = numbers_next ts i _ [] c.loop-t-test.true w.in_default.ensures in (
             before,
             λ m. ap (λ set. member m.value (vec_items set.numbers)) w.listed-is ∙ knows m,
             ap (λ k. noted k (listings before (numbers_in (drop (i + 1) ts)))) w.first-is ∙

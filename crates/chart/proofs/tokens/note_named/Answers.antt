@@ -10,13 +10,13 @@ pub loop-t-preserved : goal.loop-t-preserved
 loop-t-preserved c =
     let ts = c.args.condition.now in
     let i = c.loop-t.t-index in
-    elim c.match-step-named.branch [
+    elim c.match-step_named.branch [
       | in-Some w ↦ λ ns k.
-          uses_next ns c.loop-t.first c.match-step-named.first _ (refs (drop i ts)) (w.in-Some.n ∷ []) (refs (drop (i + 1) ts))
-          (refs_next ts i _ (w.in-Some.n ∷ []) c.loop-t-test.true w.in-Some.ensures) (w.first-is ∙ w.note-use.ensures ns k) (c.loop-t.invariant ns k)
+          uses_next ns c.loop-t.first c.match-step_named.first _ (refs (drop i ts)) (w.in-Some.n ∷ []) (refs (drop (i + 1) ts))
+          (refs_next ts i _ (w.in-Some.n ∷ []) c.loop-t-test.true w.in-Some.ensures) (w.first-is ∙ w.note_use.ensures ns k) (c.loop-t.invariant ns k)
       | in-default w ↦ λ ns k.
-          uses_next ns c.loop-t.first c.match-step-named.first _ (refs (drop i ts)) [] (refs (drop (i + 1) ts))
-          (refs_next ts i _ [] c.loop-t-test.true w.in-default.ensures) w.first-is (c.loop-t.invariant ns k)
+          uses_next ns c.loop-t.first c.match-step_named.first _ (refs (drop i ts)) [] (refs (drop (i + 1) ts))
+          (refs_next ts i _ [] c.loop-t-test.true w.in_default.ensures) w.first-is (c.loop-t.invariant ns k)
     ]
 
 pub returns : goal.returns

@@ -5,5 +5,5 @@ use Rattle.codefile.proofs.directory.layout_of.Goals as goal
 
 pub returns : goal.returns
 returns c =
-    let read : Ok (lengths c.read-directory-d.result) ≡ layout_of c.args.bytes.now = search rules in
+    let read : Ok (lengths c.read_directory-d.result) ≡ layout_of c.args.bytes.now = search rules in
     record { layout = read; regular = layout_regular c.args.bytes.now _ (sym read) }

@@ -5,29 +5,29 @@ use Rattle.codefile.proofs.Loading.{accepted_by}
 use Rattle.codefile.proofs.FirstFaults.{answers_first}
 use Rattle.codefile.proofs.load.check.Goals as goal
 
-pub returns-in-err-check-words : goal.returns-in-err-check-words
-returns-in-err-check-words c =
+pub returns-in_err-check_words : goal.returns-in_err-check_words
+returns-in_err-check_words c =
     let bs = c.args.bytes.now in
-    let l = c.in-ok-layout.layout in
-    let head = sym c.in-ok-layout.ensures.layout in
-    let f = c.in-err-check-words.field-0.0 in
-    let words = c.in-err-check-words.ensures in
-    let exit = err_from_is_err_and c.from-residual-in-err-check-words.result c.from-residual-in-err-check-words.ensures.1 in
+    let l = c.in_ok-layout.layout in
+    let head = sym c.in_ok-layout.ensures.layout in
+    let f = c.in_err-check_words.field-0.0 in
+    let words = c.in_err-check_words.ensures in
+    let exit = err_from_is_err_and c.from-residual-in_err-check_words.result c.from-residual-in_err-check_words.ensures.1 in
     rw (exit.1, exit.2)
     (record {
       layout = sym (accepted_by bs l (Err f) head (sym words));
       regular = tt;
       checked = tt;
-      first_fault = answers_first {A = Layout} bs l head c.in-ok-layout.ensures.regular (Err f) words;
+      first_fault = answers_first {A = Layout} bs l head c.in_ok-layout.ensures.regular (Err f) words;
     })
 
 pub returns : goal.returns
 returns c =
     let bs = c.args.bytes.now in
-    let l = c.in-ok-layout.layout in
-    let head = sym c.in-ok-layout.ensures.layout in
-    let words = c.in-ok-check-words.ensures in
-    let regular = c.in-ok-layout.ensures.regular in
+    let l = c.in_ok-layout.layout in
+    let head = sym c.in_ok-layout.ensures.layout in
+    let words = c.in_ok-check_words.ensures in
+    let regular = c.in_ok-layout.ensures.regular in
     record {
       layout = sym (accepted_by bs l (Ok tt) head (sym words));
       regular = regular;

@@ -12,7 +12,7 @@ returns-then-owed c =
     let bad : (c.loop-rest.owed || spoils c.loop-rest.depth c.number-word.result) ≡ true =
     elim c.then-owed.branch [
       | goal.then-owed-via-then-owed w ↦ or_left _ _ w.if-owed.true
-      | goal.then-owed-via-else-owed+then-does-spoil w ↦ or_right _ _ (sym w.if-does-spoil.ensures)
+      | goal.then-owed-via-else-owed+then-does_spoil w ↦ or_right _ _ (sym w.if-does_spoil.ensures)
     ] in
     let found = scan_owed c.args.part c.loop-rest.place c.loop-rest.owed c.loop-rest.depth c.loop-rest.rest.now four
     c.number-word.result (search rules) good bad in
@@ -24,5 +24,5 @@ loop-rest-preserved c =
     let good : lawful c.args.part c.number-word.result ≡ true = search rules in
     let fine : spoils c.loop-rest.depth c.number-word.result ≡ false = search rules in
     let more = scan_more c.args.part c.loop-rest.place c.loop-rest.owed c.loop-rest.depth c.loop-rest.rest.now four
-    c.number-word.result (search rules) good c.if-owed.false fine c.depth-after-depth.result c.depth-after-depth.ensures in
+    c.number-word.result (search rules) good c.if-owed.false fine c.depth_after-depth.result c.depth_after-depth.ensures in
     (search rules, more ∙ c.loop-rest.invariant.1)

@@ -8,6 +8,6 @@ pub returns : goal.returns
 returns c =
     let old = c.args.buffer.now in
     let code = code_for c.args.contents in
-    let head = c.put-head.ensures ∙ ap (λ d. over 0 (head_bytes d code.initial) old) c.directory-for.ensures in
-    let whole = puts_file code old c.put-head.new.buffer c.put-words.new.buffer c.put-words-2.new.buffer c.put-words-3.new.buffer c.requires.room head c.put-words.ensures c.put-words-2.ensures c.put-words-3.ensures in
-    record { file = whole; loads_back = written_loads code _ _ c.put-words-3.new.buffer (omega arith) c.requires.few refl whole }
+    let head = c.put_head.ensures ∙ ap (λ d. over 0 (head_bytes d code.initial) old) c.directory_for.ensures in
+    let whole = puts_file code old c.put_head.new.buffer c.put_words.new.buffer c.put_words-2.new.buffer c.put_words-3.new.buffer c.requires.room head c.put_words.ensures c.put_words-2.ensures c.put_words-3.ensures in
+    record { file = whole; loads_back = written_loads code _ _ c.put_words-3.new.buffer (omega arith) c.requires.few refl whole }

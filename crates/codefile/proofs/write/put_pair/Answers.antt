@@ -5,4 +5,4 @@ use Rattle.codefile.proofs.write.put_pair.Goals as goal
 
 pub returns : goal.returns
 returns c =
-    puts_more c.args.at _ (bytes32 c.args.pair.offset) (bytes32 c.args.pair.length) c.args.buffer.now _ _ refl (omega arith) c.put-number.ensures c.put-number-2.ensures
+    puts_more c.args.at _ (bytes32 c.args.pair.offset) (bytes32 c.args.pair.length) c.args.buffer.now _ _ refl (omega arith) c.put_number.ensures c.put_number-2.ensures

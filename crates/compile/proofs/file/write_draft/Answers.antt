@@ -2,9 +2,9 @@ use Rattle.std.proofs.Common.{take, Ok, Err}
 use Rattle.compile.proofs.Filing.{too_many, filed, loads}
 use Rattle.compile.proofs.file.write_draft.Goals as goal
 
-pub returns-in-default : goal.returns-in-default
-returns-in-default c = record {
-  file = λ ls d. too_many ls c.args.end c.args.buffer.now (c.in-default.ensures ls d);
+pub returns-in_default : goal.returns-in_default
+returns-in_default c = record {
+  file = λ ls d. too_many ls c.args.end c.args.buffer.now (c.in_default.ensures ls d);
   loads_back = λ ls d f. tt;
 }
 

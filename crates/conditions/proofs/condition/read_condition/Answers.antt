@@ -12,6 +12,6 @@ returns c = record {
       let is = r.passes none refl ∙ stopped _ _ _ _ r.undotted r.unadded in
       record { tree = join r.others r.last; is = is; begins = sound _ _ _ _ is; emitted = r.emitted })
       (λ f r. r.fails none refl);
-  only-tree = MatchResult-weaker c.condition.result c.condition.ensures (λ x r. only _ _) (λ f r. nowhere _ _ f (r.fails none refl));
+  only_tree = MatchResult-weaker c.condition.result c.condition.ensures (λ x r. only _ _) (λ f r. nowhere _ _ f (r.fails none refl));
   refused = MatchResult-weaker c.condition.result c.condition.ensures (λ x r. tt) (λ f r. refused _ _ f (r.fails none refl));
 }

@@ -12,11 +12,11 @@ of_copy x y copy file e h = λ j. damaged_by (sym e j) (h j)
 
 pub returns : goal.returns
 returns c =
-    let copied = c.in-ok-copy.ensures.items in
+    let copied = c.in_ok-copy.ensures.items in
     elim c.match-damage.branch [
       | in-Cut w ↦ ap vec_items w.copy-is ∙ w.truncate.ensures.items ∙ of_copy _ (Cut w.in-Cut.length) _ _ w.in-Cut.is copied
       | in-Byte+then-place-len w ↦ ap vec_items w.copy-is ∙ of_copy _ (Byte w.in-Byte.place w.in-Byte.value) _ _ w.in-Byte.is copied
       | in-Byte+else-place-len w ↦
-          ap vec_items w.copy-is ∙ sym (set_past _ w.in-Byte.place w.in-Byte.value (omega (arith, c.in-ok-copy.copy.ok.0)))
+          ap vec_items w.copy-is ∙ sym (set_past _ w.in-Byte.place w.in-Byte.value (omega (arith, c.in_ok-copy.copy.ok.0)))
           ∙ of_copy _ (Byte w.in-Byte.place w.in-Byte.value) _ _ w.in-Byte.is copied
     ]

@@ -5,8 +5,8 @@ use Rattle.std.proofs.lemmas.Result.{MatchResult-weaker}
 use Rattle.lines.proofs.Reading.{none_left, begun, not_begun, ended_at_once}
 use Rattle.lines.proofs.line.read.Goals as goal
 
-pub returns-in-default : goal.returns-in-default
-returns-in-default c = none_left _ _ _ c.in-default.ensures.cases
+pub returns-in_default : goal.returns-in_default
+returns-in_default c = none_left _ _ _ c.in_default.ensures.cases
 
 pub returns-in-LineEnd : goal.returns-in-LineEnd
 returns-in-LineEnd c =

@@ -7,6 +7,6 @@ use Rattle.lines.proofs.line.read_line.Goals as goal
 pub returns : goal.returns
 returns c = record {
   reads = MatchResult-weaker c.read.result c.read.ensures (λ p r. whole_line_read r) (λ f r. r.fails);
-  only-tree = MatchResult-weaker c.read.result c.read.ensures (λ p r. only_one _ _) (λ f r. nowhere _ _ f r.fails);
+  only_tree = MatchResult-weaker c.read.result c.read.ensures (λ p r. only_one _ _) (λ f r. nowhere _ _ f r.fails);
   refused = MatchResult-weaker c.read.result c.read.ensures (λ p r. tt) (λ f r. refused _ _ f r.fails);
 }

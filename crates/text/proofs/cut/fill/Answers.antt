@@ -19,9 +19,9 @@ loop-at-preserved c =
     let w = c.in-Whole.ensures.within in
     let long = ap length (from text at) ∙ length-drop at text in (
       omega (arith, w, long),
-      one_more text (vec_items c.loop-at.list) (vec_items c.push-reserved.new.self) at c.in-Whole.len c.in-Whole.kind c.push-reserved.ensures.items c.loop-at.invariant.1 c.loop-at-test.true c.in-Whole.ensures.is w.0 (omega (arith, w, long)),
-      omega (arith, w, c.push-reserved.ensures.len),
-      c.push-reserved.ensures.capacity ∙ c.loop-at.invariant.3,
+      one_more text (vec_items c.loop-at.list) (vec_items c.push_reserved.new.self) at c.in-Whole.len c.in-Whole.kind c.push_reserved.ensures.items c.loop-at.invariant.1 c.loop-at-test.true c.in-Whole.ensures.is w.0 (omega (arith, w, long)),
+      omega (arith, w, c.push_reserved.ensures.len),
+      c.push_reserved.ensures.capacity ∙ c.loop-at.invariant.3,
     )
 
 pub returns-in-Wrong : goal.returns-in-Wrong

@@ -4,10 +4,10 @@ use Rattle.words.specs.Words.{lawful, encoded, instruction_of}
 use Rattle.words.proofs.Inverse.{written_back}
 use Rattle.words.proofs.codec.decode.Goals as goal
 
-pub returns-then-is-lawful : goal.returns-then-is-lawful
-returns-then-is-lawful c =
-    let good : lawful c.args.part c.args.word ≡ true = sym c.is-lawful.ensures ∙ c.if-is-lawful.true in
+pub returns-then-is_lawful : goal.returns-then-is_lawful
+returns-then-is_lawful c =
+    let good : lawful c.args.part c.args.word ≡ true = sym c.is_lawful.ensures ∙ c.if-is_lawful.true in
     record {
-      instruction = ap (λ i. Some i) c.instruction-of.ensures ∙ sym (cond-true (lawful c.args.part c.args.word) _ _ good);
+      instruction = ap (λ i. Some i) c.instruction_of.ensures ∙ sym (cond-true (lawful c.args.part c.args.word) _ _ good);
       written_back = λ i e. let same : i ≡ instruction_of c.args.word = cc in ap (encoded c.args.part) same ∙ written_back c.args.part c.args.word good;
     }

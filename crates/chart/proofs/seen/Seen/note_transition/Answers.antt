@@ -12,16 +12,16 @@ returns c = λ tree ns before shown knows mem.
     let t = c.args.t in
     let fs = items shown.0 in
     let ts = items shown.1 in
-    let d = c.note-declaration.ensures (all transitions_of before) mem.transitions in
+    let d = c.note_declaration.ensures (all transitions_of before) mem.transitions in
     let faults = transition_noted ns (all transitions_of before) t.number fs ts (refs t.condition.now)
-    c.args.first.now c.note-declaration.new.first c.note-uses.new.first c.note-uses-2.new.first c.note-named.new.first c.note-list.new.first c.note-list-2.new.first
+    c.args.first.now c.note_declaration.new.first c.note_uses.new.first c.note_uses-2.new.first c.note_named.new.first c.note_list.new.first c.note_list-2.new.first
     d.0
-    (c.note-uses.ensures ns knows ∙ ap (λ l. noted c.note-declaration.new.first (uses ns l)) shown.4)
-    (c.note-uses-2.ensures ns knows ∙ ap (λ l. noted c.note-uses.new.first (uses ns l)) shown.5)
-    (c.note-named.ensures ns knows)
-    (c.note-list.ensures ∙ ap (λ l. noted c.note-named.new.first (repetitions l)) shown.4)
-    (c.note-list-2.ensures ∙ ap (λ l. noted c.note-list.new.first (repetitions l)) shown.5) in
+    (c.note_uses.ensures ns knows ∙ ap (λ l. noted c.note_declaration.new.first (uses ns l)) shown.4)
+    (c.note_uses-2.ensures ns knows ∙ ap (λ l. noted c.note_uses.new.first (uses ns l)) shown.5)
+    (c.note_named.ensures ns knows)
+    (c.note_list.ensures ∙ ap (λ l. noted c.note_named.new.first (repetitions l)) shown.4)
+    (c.note_list-2.ensures ∙ ap (λ l. noted c.note_list.new.first (repetitions l)) shown.5) in
     subst
-    (λ l. NotesLine ns before l c.args.first.now c.note-list-2.new.first (record { steps = c.args.self.now.steps; transitions = c.note-declaration.new.before; listed = c.note-list-2.new.listed; held = c.args.self.now.held }))
+    (λ l. NotesLine ns before l c.args.first.now c.note_list-2.new.first (record { steps = c.args.self.now.steps; transitions = c.note_declaration.new.before; listed = c.note_list-2.new.listed; held = c.args.self.now.held }))
     (sym shown.3)
     (record { faults = faults; remembers = record { steps = mem.steps; transitions = d.1; held = mem.held } })

@@ -3,18 +3,18 @@ use Rattle.chart.specs.Sets.{member, distinct}
 use Rattle.chart.proofs.NumberSets.{member_push, distinct_push, room_left}
 use Rattle.chart.proofs.set.NumberSet.add.Goals as goal
 
-pub push-reserved-requires : goal.push-reserved-requires
-push-reserved-requires c =
+pub push_reserved-requires : goal.push_reserved-requires
+push_reserved-requires c =
     let set = c.args.self.now in
     let few : length (vec_items set.numbers) < 64 = room_left c.args.n (vec_items set.numbers) set.apart (sym c.if-has.ensures) c.requires in
     search rules
 
-pub invariant-of-self : goal.invariant-of-self
-invariant-of-self c =
+pub invariant_of-self : goal.invariant_of-self
+invariant_of-self c =
     let set = c.args.self.now in (
-      ap distinct c.push-reserved.ensures.items ∙ distinct_push c.args.n (vec_items set.numbers) set.apart (sym c.if-has.ensures) c.requires,
+      ap distinct c.push_reserved.ensures.items ∙ distinct_push c.args.n (vec_items set.numbers) set.apart (sym c.if-has.ensures) c.requires,
       (
-        omega (arith, c.push-reserved.ensures.capacity, set.room),
+        omega (arith, c.push_reserved.ensures.capacity, set.room),
         tt,
       ),
     )
@@ -22,6 +22,6 @@ invariant-of-self c =
 pub returns : goal.returns
 returns c =
     record {
-      was-there = c.if-has.ensures;
-      numbers = λ m. ap (member m) c.push-reserved.ensures.items ∙ member_push m c.args.n (vec_items c.args.self.now.numbers);
+      was_there = c.if-has.ensures;
+      numbers = λ m. ap (member m) c.push_reserved.ensures.items ∙ member_push m c.args.n (vec_items c.args.self.now.numbers);
     }

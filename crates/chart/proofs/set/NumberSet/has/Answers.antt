@@ -5,5 +5,5 @@ use Rattle.chart.proofs.set.NumberSet.has.Goals as goal
 
 pub returns : goal.returns
 returns c =
-    c.is-some.ensures ∙
+    c.is_some.ensures ∙
     (earliest_member c.deref.result.now c.args.n c.earliest.result c.earliest.ensures ∙ ap (member c.args.n) c.deref.ensures.value)

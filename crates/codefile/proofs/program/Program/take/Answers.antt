@@ -5,10 +5,10 @@ use Rattle.codefile.specs.File.{words_of}
 use Rattle.codefile.proofs.Loading.{checked_sound}
 use Rattle.codefile.proofs.program.Program.take.Goals as goal
 
-pub invariant-of-self : goal.invariant-of-self
-invariant-of-self c =
+pub invariant_of-self : goal.invariant_of-self
+invariant_of-self c =
     let all = checked_sound c.args.bytes.now c.args.l c.requires.checked in
-    let parts = c.split-parts-parts.ensures in
+    let parts = c.split_parts-parts.ensures in
     let p = c.args.self.now in (
       ap (sound Clear 0) (c.fill.ensures.words ∙ ap words_of parts.clear.0) ∙ all.clears,
       (

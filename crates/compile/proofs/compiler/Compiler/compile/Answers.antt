@@ -5,10 +5,10 @@ use Rattle.compile.proofs.TextLaws.{text_law, charts_law}
 use Rattle.compile.proofs.Compiling.{refused, accepted, lines_fit, answers, loads_as, within}
 use Rattle.compile.proofs.compiler.Compiler.compile.Goals as goal
 
-pub returns-in-err-check : goal.returns-in-err-check
-returns-in-err-check c =
+pub returns-in_err-check : goal.returns-in_err-check
+returns-in_err-check c =
     let p = err_from_is_err_and c.from-residual.result c.from-residual.ensures.1 in
-    let is = refused c.args.text.now (length c.args.buffer.now) c.check.new.self.draft c.in-err-check.field-0.0 c.in-err-check.ensures in
+    let is = refused c.args.text.now (length c.args.buffer.now) c.check.new.self.draft c.in_err-check.field-0.0 c.in_err-check.ensures in
     rw (p.1, p.2) record {
       answer = sym (ap answer_of is);
       buffer = sym (ap (λ w. buffer_with w c.args.buffer.now) is);
@@ -21,13 +21,13 @@ returns-in-err-check c =
 pub returns : goal.returns
 returns c =
     let text = c.args.text.now in
-    let a = accepted text c.check.new.self.draft c.in-ok-check.ensures in
-    let r = c.write-draft.result in
-    let f = answers text c.args.buffer.now c.write-draft.new.buffer r a.lines a.chart (c.write-draft.ensures.file a.lines a.drafted) in record {
+    let a = accepted text c.check.new.self.draft c.in_ok-check.ensures in
+    let r = c.write_draft.result in
+    let f = answers text c.args.buffer.now c.write_draft.new.buffer r a.lines a.chart (c.write_draft.ensures.file a.lines a.drafted) in record {
       answer = f.answer;
       buffer = f.buffer;
       text = text_law text;
       chart = charts_law text;
-      loads_back = loads_as text c.write-draft.new.buffer r a.lines a.chart (c.write-draft.ensures.loads_back a.lines a.drafted (lines_fit text a.lines a.chart));
+      loads_back = loads_as text c.write_draft.new.buffer r a.lines a.chart (c.write_draft.ensures.loads_back a.lines a.drafted (lines_fit text a.lines a.chart));
       within = within text (length c.args.buffer.now) r f.answer;
     }

@@ -3,21 +3,21 @@ use Rattle.translation.specs.Translation.{clear_part, enter_part, hold_part}
 use Rattle.translation.proofs.Limiting.{kept_whole, clear_over, enter_over, hold_over}
 use Rattle.translation.proofs.draft.Draft.contents.Goals as goal
 
-pub returns-in-err-clear : goal.returns-in-err-clear
-returns-in-err-clear c = λ ls d. rw c.from-residual.ensures (clear_over ls c.args.self.now d c.in-err-clear.ensures)
+pub returns-in_err-clear : goal.returns-in_err-clear
+returns-in_err-clear c = λ ls d. rw c.from-residual.ensures (clear_over ls c.args.self.now d c.in_err-clear.ensures)
 
-pub returns-in-err-enter : goal.returns-in-err-enter
-returns-in-err-enter c = λ ls d. rw c.from-residual-in-err-enter.ensures (enter_over ls c.args.self.now d c.in-err-enter.ensures)
+pub returns-in_err-enter : goal.returns-in_err-enter
+returns-in_err-enter c = λ ls d. rw c.from-residual-in_err-enter.ensures (enter_over ls c.args.self.now d c.in_err-enter.ensures)
 
-pub returns-in-err-hold : goal.returns-in-err-hold
-returns-in-err-hold c = λ ls d. rw c.from-residual-in-err-hold.ensures (hold_over ls c.args.self.now d c.in-err-hold.ensures)
+pub returns-in_err-hold : goal.returns-in_err-hold
+returns-in_err-hold c = λ ls d. rw c.from-residual-in_err-hold.ensures (hold_over ls c.args.self.now d c.in_err-hold.ensures)
 
 pub returns : goal.returns
 returns c = λ ls d.
     let s = c.args.self.now in
-    let clear = kept_whole (kept_in s.clear) (clear_part ls) _ d.clear c.in-ok-clear.ensures in
-    let enter = kept_whole (kept_in s.enter) (enter_part ls) _ d.enter c.in-ok-enter.ensures in
-    let hold = kept_whole (kept_in s.hold) (hold_part ls) _ d.hold c.in-ok-hold.ensures in
+    let clear = kept_whole (kept_in s.clear) (clear_part ls) _ d.clear c.in_ok-clear.ensures in
+    let enter = kept_whole (kept_in s.enter) (enter_part ls) _ d.enter c.in_ok-enter.ensures in
+    let hold = kept_whole (kept_in s.hold) (hold_part ls) _ d.hold c.in_ok-hold.ensures in
     record {
       initial = d.initial;
       clear = clear.words;

@@ -33,18 +33,18 @@ returns-in-Trans c = λ l s.
     let n = t.number in
     let h = shows l c.args.line (line.Trans t) c.in-Trans.is s in
     noted_trans d n h.0 h.1 h.2 (refs t.condition.now) _ _
-    (c.emit-switches.ensures ∙ ap (λ ns. pushed d.resets (switches action.Reset n.value ns)) h.4)
-    (c.emit-switches-in-Trans.ensures ∙ ap (λ ns. pushed d.sets (switches action.Set n.value ns)) h.5)
+    (c.emit_switches.ensures ∙ ap (λ ns. pushed d.resets (switches action.Reset n.value ns)) h.4)
+    (c.emit_switches-in-Trans.ensures ∙ ap (λ ns. pushed d.sets (switches action.Set n.value ns)) h.5)
     ∙ ap (noted d) (sym h.3)
 
 pub returns-in-Hold : goal.returns-in-Hold
 returns-in-Hold c = λ l s.
     let d = sketch_of c.args.self.now in
-    noted_hold d c.in-Hold.step c.in-Hold.output _ (c.emit-all.ensures ∙ ap (pushed d.hold) c.holding.ensures)
+    noted_hold d c.in-Hold.step c.in-Hold.output _ (c.emit_all.ensures ∙ ap (pushed d.hold) c.holding.ensures)
     ∙ ap (noted d) (sym (shows l c.args.line (line.Hold c.in-Hold.step c.in-Hold.output) c.in-Hold.is s))
 
 pub returns-in-Enter : goal.returns-in-Enter
 returns-in-Enter c = λ l s.
     let d = sketch_of c.args.self.now in
-    noted_enter d c.in-Enter.step c.in-Enter.action c.in-Enter.output _ (c.emit-all-in-Enter.ensures ∙ ap (pushed d.enter) c.entering.ensures)
+    noted_enter d c.in-Enter.step c.in-Enter.action c.in-Enter.output _ (c.emit_all-in-Enter.ensures ∙ ap (pushed d.enter) c.entering.ensures)
     ∙ ap (noted d) (sym (shows l c.args.line (line.Enter c.in-Enter.step c.in-Enter.action c.in-Enter.output) c.in-Enter.is s))

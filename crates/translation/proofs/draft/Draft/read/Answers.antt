@@ -18,21 +18,21 @@ over n h = eqb-true n 0 (sym h)
 pub loop-rest-init : goal.loop-rest-init
 loop-rest-init c = ([], left_all c.args.tokens.now c.args.end, read_none (sketch_of c.args.self.now))
 
-pub returns-in-err-line : goal.returns-in-err-line
-returns-in-err-line c =
+pub returns-in_err-line : goal.returns-in_err-line
+returns-in_err-line c =
     let p = err_from_is_err_and c.from-residual.result c.from-residual.ensures.1 in
     let inv = c.loop-rest.invariant in
     let some = begun (length c.loop-rest.rest.now) c.loop-rest-test.ensures in
-    text_refused _ _ _ _ p.0 (left_fails c.args.tokens.now c.loop-rest.rest.now c.args.end inv.0 p.0 inv.1 some (c.in-err-line.ensures.reads ∙ ap (λ f. fails f) (sym p.2))) p.1
+    text_refused _ _ _ _ p.0 (left_fails c.args.tokens.now c.loop-rest.rest.now c.args.end inv.0 p.0 inv.1 some (c.in_err-line.ensures.reads ∙ ap (λ f. fails f) (sym p.2))) p.1
 
 pub loop-rest-preserved : goal.loop-rest-preserved
 loop-rest-preserved c =
     let inv = c.loop-rest.invariant in
-    let line = c.in-ok-line.ensures.reads in
+    let line = c.in_ok-line.ensures.reads in
     let some = begun (length c.loop-rest.rest.now) c.loop-rest-test.ensures in (
       inv.0 ++ line.tree ∷ [],
-      left_less c.args.tokens.now c.loop-rest.rest.now c.in-ok-line.behind.now c.args.end inv.0 line.tree inv.1 some line.is,
-      read_more (sketch_of c.args.self.now) (sketch_of c.loop-rest.self) (sketch_of c.note.new.self) (kept_in c.read-line.new.guards) inv.0 line.tree inv.2 line.emitted (c.note.ensures line.tree line.shown),
+      left_less c.args.tokens.now c.loop-rest.rest.now c.in_ok-line.behind.now c.args.end inv.0 line.tree inv.1 some line.is,
+      read_more (sketch_of c.args.self.now) (sketch_of c.loop-rest.self) (sketch_of c.note.new.self) (kept_in c.read_line.new.guards) inv.0 line.tree inv.2 line.emitted (c.note.ensures line.tree line.shown),
     )
 
 pub returns : goal.returns

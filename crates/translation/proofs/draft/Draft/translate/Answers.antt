@@ -11,16 +11,16 @@ returns c =
     record {
       drafted =
           translated (read_lines c.args.tokens.now between c.args.end) (sketch_of c.erase.new.self) (sketch_of c.read.new.self) c.close.new.self
-          c.erase.ensures c.in-ok-read.ensures c.close.ensures;
+          c.erase.ensures c.in_ok-read.ensures c.close.ensures;
       sound = text_sound c.args.tokens.now c.args.end;
     }
 
-pub returns-in-err-read : goal.returns-in-err-read
-returns-in-err-read c =
+pub returns-in_err-read : goal.returns-in_err-read
+returns-in_err-read c =
     let p = err_from_is_err_and c.from-residual.result c.from-residual.ensures.1 in
     record {
       drafted =
-          not_translated (read_lines c.args.tokens.now between c.args.end) (sketch_of c.erase.new.self) (sketch_of c.read.new.self) c.read.new.self c.in-err-read.field-0.0 c.from-residual.result
-          c.in-err-read.ensures (p.1 ∙ ap (λ f. Err f) p.2);
+          not_translated (read_lines c.args.tokens.now between c.args.end) (sketch_of c.erase.new.self) (sketch_of c.read.new.self) c.read.new.self c.in_err-read.field-0.0 c.from-residual.result
+          c.in_err-read.ensures (p.1 ∙ ap (λ f. Err f) p.2);
       sound = text_sound c.args.tokens.now c.args.end;
     }
