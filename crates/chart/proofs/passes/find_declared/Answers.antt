@@ -10,7 +10,7 @@ declare-initial-requires c = let r = c.in_ok-line.ensures.reads in shows_small c
 
 pub returns-in_err-line : goal.returns-in_err-line
 returns-in_err-line c =
-    let p = err_from_is_err_and c.from-residual.result c.from-residual.ensures.1 in
+    let p = err_from_is_err_and c.from_residual.result c.from_residual.ensures.1 in
     rw (p.1, p.2)
     (left_fails c.args.tokens.now c.loop-rest.rest.now c.args.end c.loop-rest.invariant.0 c.in_err-line.field-0.0 c.loop-rest.invariant.1 c.loop-rest-test.true c.in_err-line.ensures.reads)
 

@@ -8,7 +8,7 @@ note_line-requires c = let r = c.in_ok-line.ensures.reads in shows_small c.in_ok
 
 pub returns-in_err-line : goal.returns-in_err-line
 returns-in_err-line c = λ ns knows.
-    let p = err_from_is_err_and c.from-residual.result c.from-residual.ensures.1 in
+    let p = err_from_is_err_and c.from_residual.result c.from_residual.ensures.1 in
     p.1 ∙ (ap (λ x. Err x) p.2 ∙
     fault_fails (faults_from ns c.loop-rest.invariant.0 c.loop-rest.first) c.loop-rest.rest.now c.args.end c.in_err-line.field-0.0 _ c.loop-rest-test.true c.in_err-line.ensures.reads (c.loop-rest.invariant.2 ns knows))
 

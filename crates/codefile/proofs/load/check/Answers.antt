@@ -12,7 +12,7 @@ returns-in_err-check_words c =
     let head = sym c.in_ok-layout.ensures.layout in
     let f = c.in_err-check_words.field-0.0 in
     let words = c.in_err-check_words.ensures in
-    let exit = err_from_is_err_and c.from-residual-in_err-check_words.result c.from-residual-in_err-check_words.ensures.1 in
+    let exit = err_from_is_err_and c.from_residual-in_err-check_words.result c.from_residual-in_err-check_words.ensures.1 in
     rw (exit.1, exit.2)
     (record {
       layout = sym (accepted_by bs l (Err f) head (sym words));

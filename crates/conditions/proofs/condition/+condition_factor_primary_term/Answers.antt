@@ -11,7 +11,7 @@ condition-term-requires-in-Some t c = (omega (arith, c.decreases, c.in_ok-rest.e
 
 pub condition-returns-in_err-rest-2 : goal.condition-returns-in_err-rest-2
 condition-returns-in_err-rest-2 t c =
-    let p = err_from_is_err_and c.from-residual-in_err-rest-2.result c.from-residual-in_err-rest-2.ensures.1 in
+    let p = err_from_is_err_and c.from_residual-in_err-rest-2.result c.from_residual-in_err-rest-2.ensures.1 in
     rw (p.1, p.2) (or_none (c.loop-after.invariant.1 _ _ (started c.in_ok-rest.ensures)) c.in-Some.ensures c.in_err-rest-2.ensures)
 
 pub condition-loop-after-smaller : goal.condition-loop-after-smaller
@@ -31,7 +31,7 @@ term-factor-requires-in-Some t c = (omega (arith, c.decreases, c.in_ok-rest.ensu
 
 pub term-returns-in_err-rest-2 : goal.term-returns-in_err-rest-2
 term-returns-in_err-rest-2 t c =
-    let p = err_from_is_err_and c.from-residual-in_err-rest-2.result c.from-residual-in_err-rest-2.ensures.1 in
+    let p = err_from_is_err_and c.from_residual-in_err-rest-2.result c.from_residual-in_err-rest-2.ensures.1 in
     rw (p.1, p.2) (and_none (c.loop-after.invariant.1 _ _ (term_started c.in_ok-rest.ensures)) c.in-Some.ensures c.in_err-rest-2.ensures)
 
 pub term-loop-after-smaller : goal.term-loop-after-smaller

@@ -6,7 +6,7 @@ use Rattle.lines.proofs.line.step.Goals as goal
 
 pub returns-in_err-left-2 : goal.returns-in_err-left-2
 returns-in_err-left-2 c =
-    let p = err_from_is_err_and c.from-residual-in_err-left-2.result c.from-residual-in_err-left-2.ensures.1 in
+    let p = err_from_is_err_and c.from_residual-in_err-left-2.result c.from_residual-in_err-left-2.ensures.1 in
     rw (p.1, p.2) (record { fails = not_initial c.in_ok-n.ensures c.in-None.ensures ∙ c.in_err-left-2.ensures.fails _ })
 
 pub returns-in_ok-left-2 : goal.returns-in_ok-left-2

@@ -8,22 +8,22 @@ use Rattle.lines.proofs.line.trans.Goals as goal
 
 pub returns-in_err-from : goal.returns-in_err-from
 returns-in_err-from c =
-    let p = err_from_is_err_and c.from-residual-in_err-from.result c.from-residual-in_err-from.ensures.1 in
+    let p = err_from_is_err_and c.from_residual-in_err-from.result c.from_residual-in_err-from.ensures.1 in
     rw (p.1, p.2) (record { fails = up_to_from c.in_ok-number.ensures c.in_ok-first.ensures ∙ c.in_err-from.ensures.fails (λ fs. second c.in_ok-number.number fs) })
 
 pub returns-in_err-to : goal.returns-in_err-to
 returns-in_err-to c =
-    let p = err_from_is_err_and c.from-residual-in_err-to.result c.from-residual-in_err-to.ensures.1 in
+    let p = err_from_is_err_and c.from_residual-in_err-to.result c.from_residual-in_err-to.ensures.1 in
     rw (p.1, p.2) (record { fails = up_to_to c.in_ok-number.ensures c.in_ok-first.ensures c.in_ok-from.ensures ∙ c.in_err-to.ensures.fails _ })
 
 pub returns-in_err-rest : goal.returns-in_err-rest
 returns-in_err-rest c =
-    let p = err_from_is_err_and c.from-residual-in_err-rest.result c.from-residual-in_err-rest.ensures.1 in
+    let p = err_from_is_err_and c.from_residual-in_err-rest.result c.from_residual-in_err-rest.ensures.1 in
     rw (p.1, p.2) (record { fails = up_to_when c.in_ok-number.ensures c.in_ok-first.ensures c.in_ok-from.ensures c.in_ok-to.ensures ∙ guard_fails c.in_ok-number.number c.in_ok-from.ensures.tree c.in_ok-to.ensures.tree [] condition.start c.args.end c.in_ok-to.guard.now _ c.in_err-rest.ensures.reads })
 
 pub returns-in_err-left : goal.returns-in_err-left
 returns-in_err-left c =
-    let p = err_from_is_err_and c.from-residual-in_err-left.result c.from-residual-in_err-left.ensures.1 in
+    let p = err_from_is_err_and c.from_residual-in_err-left.result c.from_residual-in_err-left.ensures.1 in
     let w = c.in_ok-rest.ensures.reads in
     let g = guard_reads c.in_ok-number.number c.in_ok-from.ensures.tree c.in_ok-to.ensures.tree [] condition.start c.args.end c.in_ok-to.guard.now c.in_ok-rest.rest.now w.tree w.is in
     rw (p.1, p.2) (record { fails = up_to_when c.in_ok-number.ensures c.in_ok-first.ensures c.in_ok-from.ensures c.in_ok-to.ensures ∙ g.is ∙ c.in_err-left.ensures.fails _ })

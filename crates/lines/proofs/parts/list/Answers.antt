@@ -5,7 +5,7 @@ use Rattle.lines.proofs.parts.list.Goals as goal
 
 pub returns-in_err-left : goal.returns-in_err-left
 returns-in_err-left c =
-    let p = err_from_is_err_and c.from-residual-in_err-left.result c.from-residual-in_err-left.ensures.1 in
+    let p = err_from_is_err_and c.from_residual-in_err-left.result c.from_residual-in_err-left.ensures.1 in
     rw (p.1, p.2) (list_none (c.loop-after.invariant _ (list_started c.in_ok-rest.ensures)) c.in-Some.ensures c.in_err-left.ensures)
 
 pub loop-after-smaller : goal.loop-after-smaller
@@ -16,7 +16,7 @@ loop-after-preserved c = λ ts s. list_more (c.loop-after.invariant ts s) c.in-S
 
 pub returns-in_err-left-2 : goal.returns-in_err-left-2
 returns-in_err-left-2 c =
-    let p = err_from_is_err_and c.from-residual-in_err-left-2.result c.from-residual-in_err-left-2.ensures.1 in
+    let p = err_from_is_err_and c.from_residual-in_err-left-2.result c.from_residual-in_err-left-2.ensures.1 in
     rw (p.1, p.2) (list_wordless (c.loop-after.invariant _ (list_started c.in_ok-rest.ensures)) c.in_default.ensures c.in_err-left-2.ensures)
 
 pub returns : goal.returns

@@ -7,7 +7,7 @@ use Rattle.compile.proofs.compiler.Compiler.compile.Goals as goal
 
 pub returns-in_err-check : goal.returns-in_err-check
 returns-in_err-check c =
-    let p = err_from_is_err_and c.from-residual.result c.from-residual.ensures.1 in
+    let p = err_from_is_err_and c.from_residual.result c.from_residual.ensures.1 in
     let is = refused c.args.text.now (length c.args.buffer.now) c.check.new.self.draft c.in_err-check.field-0.0 c.in_err-check.ensures in
     rw (p.1, p.2) record {
       answer = sym (ap answer_of is);

@@ -4,13 +4,13 @@ use Rattle.translation.proofs.Limiting.{kept_whole, clear_over, enter_over, hold
 use Rattle.translation.proofs.draft.Draft.contents.Goals as goal
 
 pub returns-in_err-clear : goal.returns-in_err-clear
-returns-in_err-clear c = λ ls d. rw c.from-residual.ensures (clear_over ls c.args.self.now d c.in_err-clear.ensures)
+returns-in_err-clear c = λ ls d. rw c.from_residual.ensures (clear_over ls c.args.self.now d c.in_err-clear.ensures)
 
 pub returns-in_err-enter : goal.returns-in_err-enter
-returns-in_err-enter c = λ ls d. rw c.from-residual-in_err-enter.ensures (enter_over ls c.args.self.now d c.in_err-enter.ensures)
+returns-in_err-enter c = λ ls d. rw c.from_residual-in_err-enter.ensures (enter_over ls c.args.self.now d c.in_err-enter.ensures)
 
 pub returns-in_err-hold : goal.returns-in_err-hold
-returns-in_err-hold c = λ ls d. rw c.from-residual-in_err-hold.ensures (hold_over ls c.args.self.now d c.in_err-hold.ensures)
+returns-in_err-hold c = λ ls d. rw c.from_residual-in_err-hold.ensures (hold_over ls c.args.self.now d c.in_err-hold.ensures)
 
 pub returns : goal.returns
 returns c = λ ls d.

@@ -20,7 +20,7 @@ loop-rest-init c = ([], left_all c.args.tokens.now c.args.end, read_none (sketch
 
 pub returns-in_err-line : goal.returns-in_err-line
 returns-in_err-line c =
-    let p = err_from_is_err_and c.from-residual.result c.from-residual.ensures.1 in
+    let p = err_from_is_err_and c.from_residual.result c.from_residual.ensures.1 in
     let inv = c.loop-rest.invariant in
     let some = begun (length c.loop-rest.rest.now) c.loop-rest-test.ensures in
     text_refused _ _ _ _ p.0 (left_fails c.args.tokens.now c.loop-rest.rest.now c.args.end inv.0 p.0 inv.1 some (c.in_err-line.ensures.reads ∙ ap (λ f. fails f) (sym p.2))) p.1

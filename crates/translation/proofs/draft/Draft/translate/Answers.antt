@@ -17,10 +17,10 @@ returns c =
 
 pub returns-in_err-read : goal.returns-in_err-read
 returns-in_err-read c =
-    let p = err_from_is_err_and c.from-residual.result c.from-residual.ensures.1 in
+    let p = err_from_is_err_and c.from_residual.result c.from_residual.ensures.1 in
     record {
       drafted =
-          not_translated (read_lines c.args.tokens.now between c.args.end) (sketch_of c.erase.new.self) (sketch_of c.read.new.self) c.read.new.self c.in_err-read.field-0.0 c.from-residual.result
+          not_translated (read_lines c.args.tokens.now between c.args.end) (sketch_of c.erase.new.self) (sketch_of c.read.new.self) c.read.new.self c.in_err-read.field-0.0 c.from_residual.result
           c.in_err-read.ensures (p.1 ∙ ap (λ f. Err f) p.2);
       sound = text_sound c.args.tokens.now c.args.end;
     }
