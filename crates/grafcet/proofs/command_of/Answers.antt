@@ -2,7 +2,7 @@ use Rattle.std.proofs.Common.{string_bytes, sym, ap, ◌∙◌, arith, ltb-false
 use Rattle.std.proofs.lemmas.List.{length-map, get_or-map}
 use Rattle.std.proofs.lemmas.Bool.Decides.{not_from_Decides}
 use Rattle.grafcet.proofs.command_of.Goals as goal
-use Rattle.grafcet.proofs.command_of.Goals.{in-default-via-then-args-lt3, in-default-via-in-len3+else-eq, in-default-via-else-args-lt3+else-args-lt4}
+use Rattle.grafcet.proofs.command_of.Goals.{in_default-via-then-args-lt3, in_default-via-in-len3+else-eq, in_default-via-else-args-lt3+else-args-lt4}
 
 pub returns-in-empty : goal.returns-in-empty
 returns-in-empty c = simp length-map (omega (arith, ltb-true))
@@ -19,13 +19,13 @@ returns-in-len3 c = (
 pub returns-in_default : goal.returns-in_default
 returns-in_default c =
     elim c.in_default.branch [
-      | in-default-via-then-args-lt3 w ↦ (simp length-map (omega (arith, ltb-false)), λ h e. let n = simp length-map at h in omega (arith, ltb-true))
-      | in-default-via-in-len3+else-eq w ↦ (
+      | in_default-via-then-args-lt3 w ↦ (simp length-map (omega (arith, ltb-false)), λ h e. let n = simp length-map at h in omega (arith, ltb-true))
+      | in_default-via-in-len3+else-eq w ↦ (
         simp length-map (omega (arith, ltb-false)),
         λ h e. not_from_Decides _ w.eq.ensures w.if-eq.false
             (w.as_str.ensures.value ∙ ap string_bytes w.word-item.is
             ∙ sym (get_or-map _ c.args.args.now 1 w.word-item.result _ (omega (arith, ltb-false))) ∙ e),
       )
-      | in-default-via-else-args-lt3+else-args-lt4 w ↦
+      | in_default-via-else-args-lt3+else-args-lt4 w ↦
           (simp length-map (omega (arith, ltb-false)), λ h e. let n = simp length-map at h in omega (arith, ltb-false))
     ]

@@ -5,7 +5,7 @@ use Rattle.chart.specs.Checks.{listings, noted}
 use Rattle.chart.specs.Sets.{member}
 use Rattle.chart.proofs.Noting.{numbers_next, listed_next}
 use Rattle.chart.proofs.tokens.note_list.Goals as goal
-use Rattle.chart.proofs.tokens.note_list.Goals.{in-Some, in-default}
+use Rattle.chart.proofs.tokens.note_list.Goals.{in-Some, in_default}
 
 pub loop-t-preserved : goal.loop-t-preserved
 loop-t-preserved c =
@@ -22,7 +22,7 @@ loop-t-preserved c =
             listed_next before n c.loop-t.first c.match-number_of.first _ (numbers_in (drop i ts)) (numbers_in (drop (i + 1) ts))
                 (numbers_next ts i _ (n ∷ []) c.loop-t-test.true w.in-Some.ensures) (w.first-is ∙ notes.0) c.loop-t.invariant.2,
           )
-      | in-default w ↦
+      | in_default w ↦
           let same = numbers_next ts i _ [] c.loop-t-test.true w.in_default.ensures in (
             before,
             λ m. ap (λ set. member m.value (vec_items set.numbers)) w.listed-is ∙ knows m,

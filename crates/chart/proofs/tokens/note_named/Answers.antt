@@ -4,7 +4,7 @@ use Rattle.lines.specs.Scan.{refs}
 use Rattle.chart.specs.Checks.{noted, uses}
 use Rattle.chart.proofs.Noting.{refs_next, uses_next}
 use Rattle.chart.proofs.tokens.note_named.Goals as goal
-use Rattle.chart.proofs.tokens.note_named.Goals.{in-Some, in-default}
+use Rattle.chart.proofs.tokens.note_named.Goals.{in-Some, in_default}
 
 pub loop-t-preserved : goal.loop-t-preserved
 loop-t-preserved c =
@@ -14,7 +14,7 @@ loop-t-preserved c =
       | in-Some w ↦ λ ns k.
           uses_next ns c.loop-t.first c.match-step_named.first _ (refs (drop i ts)) (w.in-Some.n ∷ []) (refs (drop (i + 1) ts))
           (refs_next ts i _ (w.in-Some.n ∷ []) c.loop-t-test.true w.in-Some.ensures) (w.first-is ∙ w.note_use.ensures ns k) (c.loop-t.invariant ns k)
-      | in-default w ↦ λ ns k.
+      | in_default w ↦ λ ns k.
           uses_next ns c.loop-t.first c.match-step_named.first _ (refs (drop i ts)) [] (refs (drop (i + 1) ts))
           (refs_next ts i _ [] c.loop-t-test.true w.in_default.ensures) w.first-is (c.loop-t.invariant ns k)
     ]

@@ -4,7 +4,7 @@ use Rattle.lines.specs.Parts.{numbers_in}
 use Rattle.chart.specs.Checks.{noted, uses}
 use Rattle.chart.proofs.Noting.{numbers_next, uses_next}
 use Rattle.chart.proofs.tokens.note_uses.Goals as goal
-use Rattle.chart.proofs.tokens.note_uses.Goals.{in-Some, in-default}
+use Rattle.chart.proofs.tokens.note_uses.Goals.{in-Some, in_default}
 
 pub loop-t-preserved : goal.loop-t-preserved
 loop-t-preserved c =
@@ -14,7 +14,7 @@ loop-t-preserved c =
       | in-Some w ↦ λ ns k.
           uses_next ns c.loop-t.first c.match-number_of.first _ (numbers_in (drop i ts)) (w.in-Some.n ∷ []) (numbers_in (drop (i + 1) ts))
           (numbers_next ts i _ (w.in-Some.n ∷ []) c.loop-t-test.true w.in-Some.ensures) (w.first-is ∙ w.note_use.ensures ns k) (c.loop-t.invariant ns k)
-      | in-default w ↦ λ ns k.
+      | in_default w ↦ λ ns k.
           uses_next ns c.loop-t.first c.match-number_of.first _ (numbers_in (drop i ts)) [] (numbers_in (drop (i + 1) ts))
           (numbers_next ts i _ [] c.loop-t-test.true w.in_default.ensures) w.first-is (c.loop-t.invariant ns k)
     ]

@@ -4,15 +4,15 @@ use Rattle.lines.specs.Grammar as line
 use Rattle.lines.proofs.Reading.{not_initial}
 use Rattle.lines.proofs.line.step.Goals as goal
 
-pub returns-in_err-left-2 : goal.returns-in_err-left-2
-returns-in_err-left-2 c =
-    let p = err_from_is_err_and c.from_residual-in_err-left-2.result c.from_residual-in_err-left-2.ensures.1 in
-    rw (p.1, p.2) (record { fails = not_initial c.in_ok-n.ensures c.in-None.ensures ∙ c.in_err-left-2.ensures.fails _ })
+pub returns-in_err-left-in-None : goal.returns-in_err-left-in-None
+returns-in_err-left-in-None c =
+    let p = err_from_is_err_and c.from_residual-in_err-left-in-None.result c.from_residual-in_err-left-in-None.ensures.1 in
+    rw (p.1, p.2) (record { fails = not_initial c.in_ok-n.ensures c.in-None.ensures ∙ c.in_err-left-in-None.ensures.fails _ })
 
-pub returns-in_ok-left-2 : goal.returns-in_ok-left-2
-returns-in_ok-left-2 c = record {
+pub returns-in_ok-left-in-None : goal.returns-in_ok-left-in-None
+returns-in_ok-left-in-None c = record {
   tree = line.step c.in_ok-n.n false;
-  is = not_initial c.in_ok-n.ensures c.in-None.ensures ∙ c.in_ok-left-2.ensures.passes _;
+  is = not_initial c.in_ok-n.ensures c.in-None.ensures ∙ c.in_ok-left-in-None.ensures.passes _;
   shown = refl;
   quiet = refl;
 }

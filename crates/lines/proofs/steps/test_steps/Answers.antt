@@ -5,7 +5,7 @@ use Rattle.lines.specs.Parts.{numbers_in}
 use Rattle.lines.specs.Guards.{step_tests}
 use Rattle.lines.proofs.Testing.{test_on, test_off}
 use Rattle.lines.proofs.steps.test_steps.Goals as goal
-use Rattle.lines.proofs.steps.test_steps.Goals.{in-Some, in-default}
+use Rattle.lines.proofs.steps.test_steps.Goals.{in-Some, in_default}
 
 pub loop-t-init : goal.loop-t-init
 unfolding pushed
@@ -17,7 +17,7 @@ loop-t-preserved c =
       | in-Some w ↦
           let m = test_on (kept_in c.args.out.now) (kept_in c.loop-t.out) (kept_in w.push.new.self) c.args.list.now c.loop-t.t-index _ w.in-Some.n c.loop-t.first c.loop-t-test.true c.loop-t.invariant.0 c.loop-t.invariant.1 w.in-Some.ensures (w.push.ensures ∙ ap (λ i. pushed (kept_in c.loop-t.out) (i ∷ [])) w.step_test.ensures) in
           (ap kept_in w.out-is ∙ m.0, w.first-is ∙ m.1)
-      | in-default w ↦
+      | in_default w ↦
           let m = test_off (kept_in c.args.out.now) (kept_in c.loop-t.out) c.args.list.now c.loop-t.t-index _ c.loop-t.first c.loop-t-test.true c.loop-t.invariant.0 c.loop-t.invariant.1 w.in_default.ensures in
           (ap kept_in w.out-is ∙ m.0, w.first-is ∙ m.1)
     ]

@@ -12,7 +12,7 @@ use Rattle.lines.specs.Parts.{counted}
 use Rattle.translation.specs.Translation.{switch}
 use Rattle.translation.proofs.Emitting.{pushed_then, switching, switching_none, switching_skip, switching_more}
 use Rattle.translation.proofs.emit.emit_switches.Goals as goal
-use Rattle.translation.proofs.emit.emit_switches.Goals.{in-Some, in-default}
+use Rattle.translation.proofs.emit.emit_switches.Goals.{in-Some, in_default}
 
 -- a token that is no number
 skips : (a : Action) (k l m : Kept) (ts : List Token) (i : ℕ) (t : Token) → i < length ts → counted (get_or ts i t).place (get_or ts i t).kind ≡ [] → l ≡ k → switching a k (drop i ts) ≡ m → switching a l (drop (i + 1) ts) ≡ m
@@ -33,7 +33,7 @@ loop-token-preserved c =
     let i = c.loop-token.token-index in
     elim c.match-number_of.branch [
       | in-Some w ↦ takes a k l _ ts i _ w.in-Some.step w.switch.result c.loop-token-test.true w.in-Some.ensures w.switch.ensures (ap kept_in w.out-is ∙ w.push-in-Some.ensures) c.loop-token.invariant
-      | in-default w ↦ skips a k l _ ts i _ c.loop-token-test.true w.in_default.ensures (ap kept_in w.out-is) c.loop-token.invariant
+      | in_default w ↦ skips a k l _ ts i _ c.loop-token-test.true w.in_default.ensures (ap kept_in w.out-is) c.loop-token.invariant
     ]
 
 pub returns : goal.returns
