@@ -39,14 +39,14 @@ pub(crate) fn find_declared(
     ensures { MatchResult result (λ initial. Declared (read_lines tokens.now between end) initial declared.new.numbers.items) (λ f. read_lines tokens.now between end ≡ Refused f) }
 {
     declared.clear();
-    let mut initial = false;
+    let mut any_initial = false;
     let mut rest = tokens;
     while rest.len() > 0 {
         let (line, after) = read_line(rest, end, words)?;
-        initial |= declare(declared, line);
+        any_initial |= declare(declared, line);
         rest = after;
     }
-    Ok(initial)
+    Ok(any_initial)
 }
 
 // Finds the first of the faults 7 to 10.

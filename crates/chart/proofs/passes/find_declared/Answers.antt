@@ -5,8 +5,8 @@ use Rattle.chart.specs.Said.{is_initial}
 use Rattle.chart.proofs.LinePasses.{shows_small, initial_push}
 use Rattle.chart.proofs.passes.find_declared.Goals as goal
 
-pub declare-initial-requires : goal.declare-initial-requires
-declare-initial-requires c = let r = c.in_ok-line.ensures.reads in shows_small c.in_ok-line.line r.tree r.shown r.fits
+pub declare-any_initial-requires : goal.declare-any_initial-requires
+declare-any_initial-requires c = let r = c.in_ok-line.ensures.reads in shows_small c.in_ok-line.line r.tree r.shown r.fits
 
 pub returns-in_err-line : goal.returns-in_err-line
 returns-in_err-line c =
@@ -18,10 +18,10 @@ pub loop-rest-preserved : goal.loop-rest-preserved
 loop-rest-preserved c =
     let r = c.in_ok-line.ensures.reads in
     let ls = c.loop-rest.invariant.0 in
-    let d = c.declare-initial.ensures r.tree ls r.shown c.loop-rest.invariant.3 in (
+    let d = c.declare-any_initial.ensures r.tree ls r.shown c.loop-rest.invariant.3 in (
       ls ++ r.tree ∷ [],
       left_less c.args.tokens.now c.loop-rest.rest.now c.in_ok-line.after.now c.args.end ls r.tree c.loop-rest.invariant.1 c.loop-rest-test.true r.is,
-      ap (λ b. c.loop-rest.initial || b) d.0 ∙ (ap (λ b. b || is_initial r.tree) c.loop-rest.invariant.2 ∙ sym (initial_push ls r.tree)),
+      ap (λ b. c.loop-rest.any_initial || b) d.0 ∙ (ap (λ b. b || is_initial r.tree) c.loop-rest.invariant.2 ∙ sym (initial_push ls r.tree)),
       d.1,
     )
 

@@ -11,13 +11,11 @@ push_reserved-requires c =
 
 pub invariant_of-self : goal.invariant_of-self
 invariant_of-self c =
-    let set = c.args.self.now in (
-      ap distinct c.push_reserved.ensures.items ∙ distinct_push c.args.n (vec_items set.numbers) set.apart (sym c.if-has.ensures) c.requires,
-      (
-        omega (arith, c.push_reserved.ensures.capacity, set.room),
-        tt,
-      ),
-    )
+    let set = c.args.self.now in
+    record {
+      apart = ap distinct c.push_reserved.ensures.items ∙ distinct_push c.args.n (vec_items set.numbers) set.apart (sym c.if-has.ensures) c.requires;
+      room = omega (arith, c.push_reserved.ensures.capacity, set.room);
+    }
 
 pub returns : goal.returns
 returns c =
