@@ -18,6 +18,7 @@ mod position;
 
 use failure::Failure;
 use std::env;
+use std::process::ExitCode;
 
 /// What the arguments ask for.
 #[derive(Drop)]
@@ -63,9 +64,13 @@ fn arguments(rt: &HostRuntime) -> Result<Vec<String>, Failure> {
 }
 
 // A failure ends the program with status 1.
-fn main(rt: HostRuntime) -> Result<(), Failure> {
-    match arguments(&rt) {
+fn main(rt: HostRuntime) -> ExitCode {
+    let outcome = match arguments(&rt) {
         Ok(args) => perform(&rt, args.as_slice()),
         Err(failure) => told(&rt, "grafcet", Err(failure)),
+    };
+    match outcome {
+        Ok(()) => ExitCode::SUCCESS,
+        Err(_) => ExitCode::FAILURE,
     }
 }
