@@ -1,5 +1,5 @@
 -- The faults of all lines, gathered by their number. Assumes nothing.
-use Rattle.std.proofs.Common.{◌≡◌, cond, ◌⊎◌, List, [], ◌∷◌, ◌++◌, map, sym, refl, ap, ◌∙◌, ⊎_elim, append_assoc, append-nil}
+use Rattle.std.proofs.Common.{◌≡◌, cond, List, [], ◌∷◌, ◌++◌, map, sym, refl, ap, ◌∙◌, ⊎_elim, append_assoc, append-nil}
 use mathlib.Core.List.{map-append}
 use Rattle.faults.specs.declared.ChartFault.{ChartFault}
 use Rattle.lines.specs.declared.shape.Number.{Number}

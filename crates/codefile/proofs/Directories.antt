@@ -1,5 +1,5 @@
 -- Pairs of the directory, at their places. Assumes nothing.
-use Rattle.std.proofs.Common.{◌≡◌, ℕ, ◌+◌, ◌-◌, ◌*◌, List, length, drop, ap, ◌∙◌, add-zero, add_assoc}
+use Rattle.std.proofs.Common.{◌≡◌, ℕ, ◌+◌, ◌*◌, List, drop, ap, ◌∙◌, add-zero, add_assoc}
 use Rattle.std.proofs.lemmas.List.{drop-drop, get_or-drop}
 use Rattle.codefile.specs.declared.directory.Pair.{Pair}
 use Rattle.codefile.specs.declared.directory.Directory.{Directory}

@@ -1,5 +1,5 @@
 -- The file of a draft. Assumes nothing.
-use Rattle.std.proofs.Common.{◌≡◌, ℕ, ◌+◌, ◌<◌, Bool, true, false, cond, ltb, List, map, length, Some, None, Ok, Err, Option, Result, sym, refl, ap, ◌∙◌, subst, arith}
+use Rattle.std.proofs.Common.{◌≡◌, ℕ, ◌<◌, Bool, true, false, cond, ltb, List, length, Ok, Err, Result, sym, refl, ap, ◌∙◌, subst, arith}
 use Rattle.std.proofs.lemmas.List.{length-map}
 use Rattle.std.proofs.lemmas.Bool.{lt-ltb}
 use Rattle.faults.specs.declared.CodeFault.{CodeFault}
@@ -8,7 +8,7 @@ use Rattle.words.specs.Words.{word_of}
 use Rattle.codefile.specs.declared.write.Contents.{Contents}
 use Rattle.codefile.specs.declared.write.WriteFault.{WriteFault}
 use Rattle.codefile.specs.declared.write.WriteFault.TheVariants as write
-use Rattle.codefile.specs.File.{Code, code_of}
+use Rattle.codefile.specs.File.{code_of}
 use Rattle.codefile.specs.Written.{code_for, written, answered, buffer_after, SoundCode, file_of}
 use Rattle.codefile.specs.Written as file
 use Rattle.lines.specs.Grammar.{Tree}

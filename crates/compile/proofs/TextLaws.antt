@@ -1,5 +1,5 @@
 -- The laws of texts and charts, from those of their layers. Assumes nothing.
-use Rattle.std.proofs.Common.{◌≡◌, ℕ, ◌<◌, ◌≤◌, Bool, true, false, cond, ltb, ◌⊎◌, List, [], ◌∷◌, ◌++◌, length, Some, None, Ok, Err, Option, Result, sym, refl, ap, ◌∙◌, subst, inl, inr, append-nil, arith, ltb-false, ltb-true}
+use Rattle.std.proofs.Common.{◌≡◌, ℕ, ◌<◌, ◌≤◌, Bool, true, false, cond, ltb, List, [], ◌∷◌, ◌++◌, length, Some, None, Ok, Err, Option, Result, sym, refl, ap, ◌∙◌, subst, inl, inr, append-nil, arith, ltb-false, ltb-true}
 use Rattle.std.specs.List.{AllByRecursion as All}
 use Rattle.faults.specs.Numbers.{text_place}
 use Rattle.faults.specs.declared.TextFault.{TextFault}
@@ -10,12 +10,12 @@ use Rattle.text.proofs.Places.{places_below}
 use Rattle.text.proofs.Texts.{text_spelled, text_alone}
 use Rattle.lines.specs.Grammar.{Tree, empty}
 use Rattle.conditions.specs.Read.{placed}
-use Rattle.lines.specs.Laws.{LinesUpTo, here, line, StuckText, Stuck, Viable, Ends}
+use Rattle.lines.specs.Laws.{LinesUpTo, here, line, StuckText, Viable, Ends}
 use Rattle.lines.specs.Text.{read_lines, between}
 use Rattle.lines.proofs.WholeText.{texts_sound, texts_whole, texts_refused}
 use Rattle.chart.proofs.FirstFaults.{chart_law}
-use Rattle.compile.specs.Compiled.{lines_up_to, lines_of, sooner}
-use Rattle.compile.specs.Laws.{GoesOn, Only, Reads, TextRead, TextLaw, ChartLaw}
+use Rattle.compile.specs.Compiled.{lines_up_to, sooner}
+use Rattle.compile.specs.Laws.{GoesOn, Only, Reads, TextLaw, ChartLaw}
 
 only : (ts : List Token) (e : ℕ) (ls : List Tree) → read_lines ts between e ≡ Ok ls → Only ts ls
 only ts e ls h = (texts_sound ts e ls h, λ ks s. let k = texts_whole ts e ks s in cc)

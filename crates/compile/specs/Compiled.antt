@@ -1,5 +1,5 @@
 -- What compile answers to a text and a buffer, layer by layer. Assumes nothing.
-use Rattle.std.specs.Prelude.{ℕ, cond, List, [], ◌∷◌, ◌++◌, map, length, drop, Some, None, Ok, Err, Option, Result, nat_lt}
+use Rattle.std.specs.Prelude.{ℕ, cond, List, ◌++◌, map, length, drop, Some, None, Ok, Err, Option, Result, nat_lt}
 use Rattle.faults.specs.Numbers.{text_place}
 use Rattle.faults.specs.declared.TextFault.{TextFault}
 use Rattle.faults.specs.declared.ChartFault.{ChartFault}
@@ -12,7 +12,7 @@ use Rattle.codefile.specs.declared.write.WriteFault.TheVariants as write
 use Rattle.codefile.specs.File.{Code}
 use Rattle.codefile.specs.Written.{written}
 use Rattle.text.specs.declared.token.Token.{Token}
-use Rattle.text.specs.Lex.{Lexed, tokens_of}
+use Rattle.text.specs.Lex.{tokens_of}
 use Rattle.lines.specs.Grammar.{Tree}
 use Rattle.lines.specs.Text.{read_lines, between}
 use Rattle.chart.specs.Checks.{chart_of}

@@ -1,5 +1,5 @@
 -- Texts with what they are compiled to, by the definitions alone. Assumes nothing.
-use Rattle.std.specs.Prelude.{◌≡◌, ℕ, List, [], ◌∷◌, ◌++◌, length, Ok, Err, codes, Result}
+use Rattle.std.specs.Prelude.{◌≡◌, ℕ, List, [], ◌∷◌, ◌++◌, Ok, Err, codes, Result}
 use Rattle.faults.specs.declared.TextFault.TheVariants.{NumberTooLarge}
 use Rattle.faults.specs.declared.ChartFault.TheVariants.{Text, NoInitialStep}
 use Rattle.faults.specs.declared.CodeFault.{CodeFault}

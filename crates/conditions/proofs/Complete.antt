@@ -16,7 +16,7 @@ use Rattle.conditions.specs.Tree as tree
 use Rattle.conditions.specs.Tree.{Cond, Term, Factor, Primary, spell, spell_atom, spell_term, spell_factor, spell_primary, SmallAtom, Fits, FitsTerm, FitsFactor, FitsPrimary}
 use Rattle.conditions.specs.Read.{kinds, Heads, Lacks}
 use Rattle.conditions.specs.Laws.{Whole, Only, Nowhere}
-use Rattle.conditions.proofs.Steps.{on, ahead, numbered, no_bang}
+use Rattle.conditions.proofs.Steps.{on, ahead, no_bang}
 
 ending : (s : Terms) (t : Term) (p : ℕ) (k : TokenKind) → (k ≡ Dot → ⊥) → (k ≡ Plus → ⊥) → signs none s t p k ≡ ends (join s t)
 ending s t p (Keyword w) a b = refl

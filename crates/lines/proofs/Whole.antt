@@ -1,5 +1,5 @@
 -- The scan reads each line that is spelled. Assumes nothing.
-use Rattle.std.proofs.Common.{◌≡◌, ℕ, ◌+◌, ◌-◌, true, false, cond, List, [], ◌∷◌, ◌++◌, map, length, sym, refl, ap, ◌∙◌, subst, ⊎_elim, append_assoc, append-nil, arith, le-leb}
+use Rattle.std.proofs.Common.{◌≡◌, ℕ, ◌-◌, true, false, cond, List, [], ◌∷◌, ◌++◌, map, length, sym, refl, ap, ◌∙◌, subst, ⊎_elim, append_assoc, append-nil, arith, le-leb}
 use mathlib.Core.List.{map-append}
 use Rattle.text.specs.declared.token.Word.{Word}
 use Rattle.text.specs.declared.token.Word.TheVariants.{Step, Initial, Trans, From, To, When, Hold, Enter, Set, Reset}
@@ -22,7 +22,7 @@ use Rattle.lines.specs.Grammar as line
 use Rattle.lines.specs.Grammar.{Tree, Numbers, one, more, Mark, kind, exactly, digits, spell_numbers, prefix, spell, Meets, Matches, Small, AllSmall, FitsLine}
 use Rattle.lines.specs.Scan as automaton
 use Rattle.lines.specs.Scan.{State, scan, step, follow, goes, fault, reads, fails, number, output, word, listed, initial, verb, guard, end, same, stepping, entering, transing, holding, start, noted, refs}
-use Rattle.lines.specs.Laws.{Uses, Begins, Whole, Only, Nowhere}
+use Rattle.lines.specs.Laws.{Uses, Whole, Only, Nowhere}
 use Rattle.lines.proofs.Reading.{on, guard_reads, refs_append, used_part}
 
 -- the scan of u and then rest goes from x to y, over the first marks

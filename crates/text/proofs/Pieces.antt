@@ -15,7 +15,7 @@ use Rattle.text.specs.declared.token.Word.{Word}
 use Rattle.text.specs.Lex.{letter_of, sign_of, value_of, few, number, operand, as_word, keyword, capital, signed, piece}
 use Rattle.text.specs.Runs.{digits, letters, worth}
 use Rattle.text.specs.Spelled.{Numeral, byte_of, Written, Ends, Begins, TooMany}
-use Rattle.text.specs.Spelling.{spelling, word_of}
+use Rattle.text.specs.Spelling.{word_of}
 use Rattle.text.proofs.RunLaws.{Split, split, taken, run_append, first_passes}
 use Rattle.text.proofs.Spellings.{word_is, spells, lowers, no_letters}
 

@@ -11,7 +11,7 @@ use Rattle.words.specs.declared.instruction.Target.{Target}
 use Rattle.words.specs.declared.instruction.Target.TheVariants as target
 use Rattle.words.specs.declared.instruction.Instruction.{Instruction}
 use Rattle.words.specs.declared.instruction.Instruction.TheVariants.{Load, LoadNot, And, AndNot, Or, OrNot, AndOpen, OrOpen, Close, Not, Store, Set, Reset, Hold}
-use Rattle.words.specs.Words.{word_of, operand_area, operand_number, target_area, operator_in, area_in, number_in, stands, operator_of, lawful, instruction_of, decoded}
+use Rattle.words.specs.Words.{word_of, operand_area, operand_number, target_area, operator_in, area_in, number_in, stands, operator_of, lawful, instruction_of}
 use Rattle.words.specs.Brackets.{spoils, after, sound}
 use Rattle.words.proofs.Inverse.{reads_back}
 use Rattle.text.specs.declared.token.Token.{Token}

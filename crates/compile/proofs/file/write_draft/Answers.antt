@@ -1,4 +1,4 @@
-use Rattle.std.proofs.Common.{take, Ok, Err}
+use Rattle.std.proofs.Common.{take, Ok}
 use Rattle.compile.proofs.Filing.{too_many, filed, loads}
 use Rattle.compile.proofs.file.write_draft.Goals as goal
 

@@ -1,4 +1,4 @@
-use Rattle.std.proofs.Common.{◌≡◌, length, sym, ap, ◌∙◌}
+use Rattle.std.proofs.Common.{length, sym, ap}
 use Rattle.std.proofs.lemmas.Result.{err_from_is_err_and}
 use Rattle.compile.specs.Compiled.{answer_of, buffer_with}
 use Rattle.compile.proofs.TextLaws.{text_law, charts_law}
