@@ -2,6 +2,7 @@
 use crate::texts::*;
 use compile::compiler::Compiler;
 use faults::{ChartFault, CodeFault, TextFault};
+use std::test::Fail;
 
 const TWO_STEPS: &str =
     "step 0 initial\nstep 1\ntrans 0 from 0 to 1 when /I0\ntrans 1 from 1 to 0 when I1\nhold 1 Q0\nenter 1 set Q1";
