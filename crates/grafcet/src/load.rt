@@ -12,7 +12,7 @@ use std::io::Read;
 // A longer file is not read: no code file comes near this length.
 const LIMIT: usize = 268435456;
 
-fn read_file(rt: &HostRuntime, path: &str) -> io::Result<Vec<u8>>
+pub(crate) fn read_file(rt: &HostRuntime, path: &str) -> io::Result<Vec<u8>>
     ensures { IfOk result (λ v. vec_len v ≤ 268435456) }
 {
     let mut bytes = Vec::new(rt.alloc());

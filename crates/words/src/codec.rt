@@ -1,12 +1,13 @@
 //! From instructions to words and back.
-ghost use Rattle.std.specs.Prelude.{◌≡◌, ℕ, ◌+◌, ◌<◌, ◌^◌, true, false, Some};
+ghost use Rattle.std.specs.Prelude.{◌≡◌, ℕ, ◌+◌, ◌<◌, true, false, Some};
 ghost use Rattle.words.specs.declared.instruction.Instruction.{Instruction as AnInstruction};
-ghost use Rattle.words.specs.Words.{packed as packing, operand_area, operand_number, target_area, target_number, number_in, word_of, admitted, encoded, pairs, numbers, lawful, operand_at, target_at, instruction_of, decoded};
+ghost use Rattle.words.specs.Words.{packed as packing, operand_area, operand_number, target_area, target_number, operator_in, area_in, number_in, word_of, admitted, encoded, pairs, numbers, lawful, operand_at, target_at, instruction_of, decoded};
 
 use crate::instruction::{Instruction, Operand, Part, Target};
 
 fn packed(operator: u8, area: u8, number: u8) -> u32
-    requires { packing operator area number < 2 ^ 32 }
+    requires small { number < 64 }
+    requires few { area < 16 }
     ensures { result ≡ packing operator area number }
 {
     ((operator as u32) << 24) + ((area as u32) << 20) + ((number as u32) << 14)
@@ -95,7 +96,8 @@ impl Instruction {
         stands && self.number() < 64
     }
 
-    pub(crate) fn word(self) -> u32
+    fn word(self) -> u32
+        requires { number_in self < 64 }
         ensures { result ≡ word_of self }
     {
         match self {
@@ -114,6 +116,53 @@ impl Instruction {
             Instruction::Reset(t) => packed(13, t.area(), t.number()),
             Instruction::Hold(n) => packed(12, 9, n),
         }
+    }
+
+    fn operator(self) -> u8
+        ensures value { result ≡ operator_in self }
+        ensures few { result < 16 }
+    {
+        match self {
+            Instruction::Load(_) => 1,
+            Instruction::LoadNot(_) => 2,
+            Instruction::And(_) => 3,
+            Instruction::AndNot(_) => 4,
+            Instruction::Or(_) => 5,
+            Instruction::OrNot(_) => 6,
+            Instruction::AndOpen => 7,
+            Instruction::OrOpen => 8,
+            Instruction::Close => 9,
+            Instruction::Not => 10,
+            Instruction::Store(_) => 11,
+            Instruction::Set(_) | Instruction::Hold(_) => 12,
+            Instruction::Reset(_) => 13,
+        }
+    }
+
+    fn area(self) -> u8
+        ensures value { result ≡ area_in self }
+        ensures few { result < 16 }
+    {
+        match self {
+            Instruction::Load(x)
+            | Instruction::LoadNot(x)
+            | Instruction::And(x)
+            | Instruction::AndNot(x)
+            | Instruction::Or(x)
+            | Instruction::OrNot(x) => x.area(),
+            Instruction::AndOpen | Instruction::OrOpen | Instruction::Close | Instruction::Not => 0,
+            Instruction::Store(_) => 7,
+            Instruction::Set(t) | Instruction::Reset(t) => t.area(),
+            Instruction::Hold(_) => 9,
+        }
+    }
+
+    // The word of an instruction with any number, also above 63.
+    pub(crate) fn any_word(self) -> u32
+        ensures { result ≡ word_of self }
+    {
+        let head = ((self.operator() as u32) << 24) + ((self.area() as u32) << 20);
+        head + ((self.number() as u32) << 14)
     }
 }
 
