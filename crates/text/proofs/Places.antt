@@ -1,6 +1,6 @@
 -- The places of a text's tokens rise, and stay below the place where the tokens end. Assumes nothing.
 use Rattle.std.proofs.Common.{◌≡◌, ℕ, ◌+◌, ◌<◌, ◌≤◌, List, [], ◌∷◌, length, Some, None, Option, Result, sym, ap, ◌∙◌, subst, ⊎_elim, arith, length-append}
-use Rattle.std.specs.List.{AllByRecursion as All}
+use Rattle.std.specs.List.{AllByRecursion}
 use Rattle.std.proofs.lemmas.Bool.{cases_lt}
 use Rattle.faults.specs.Numbers.{text_place}
 use Rattle.faults.specs.declared.TextFault.{TextFault}
@@ -21,7 +21,7 @@ rising_ends p [] e r = r
 rising_ends p (t ∷ ts) e r = omega (arith, r.0, rising_ends (t.place + 1) ts e r.1)
 
 -- each place is below the end
-pub rising_below : (p : ℕ) (ts : List Token) (e : ℕ) → Rising p ts e → All (λ t. t.place < e) ts
+pub rising_below : (p : ℕ) (ts : List Token) (e : ℕ) → Rising p ts e → AllByRecursion (λ t. t.place < e) ts
 rising_below p [] e r = tt
 rising_below p (t ∷ ts) e r = (omega (arith, rising_ends (t.place + 1) ts e r.1), rising_below (t.place + 1) ts e r.1)
 
@@ -73,7 +73,7 @@ pub end_within : (text : List ℕ) → end_of (tokens_of text).stop (length text
 end_within text = (placed text).1
 
 -- each token stands before the end
-pub places_below : (text : List ℕ) → All (λ t. t.place < end_of (tokens_of text).stop (length text)) (tokens_of text).tokens
+pub places_below : (text : List ℕ) → AllByRecursion (λ t. t.place < end_of (tokens_of text).stop (length text)) (tokens_of text).tokens
 places_below text = rising_below 0 (tokens_of text).tokens (end_of (tokens_of text).stop (length text)) (places_rise text)
 
 -- what a cut promises of its tokens and its answer

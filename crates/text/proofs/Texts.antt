@@ -1,7 +1,7 @@
 -- A text is spelled by its tokens, and by no others. Assumes nothing.
 use Rattle.std.proofs.Common.{◌≡◌, ℕ, zero, suc, ◌+◌, ◌<◌, ◌≤◌, leb, List, [], ◌∷◌, ◌++◌, length, Some, Ok, Err, Result, sym, refl, ap, ◌∙◌, subst, ⊎_elim, arith, length-append}
 use lib.Seq.{drop-append_seam}
-use Rattle.std.specs.List.{AllByRecursion as All}
+use Rattle.std.specs.List.{AllByRecursion}
 use Rattle.std.proofs.lemmas.Bool.{cond-true, cond-false, le-leb, lt-leb, cases_lt}
 use Rattle.faults.specs.declared.TextFault.{TextFault}
 use Rattle.faults.specs.declared.TextFault.TheVariants.{TooLong, NoToken, TooManyDigits, Unexpected, EighthBracket, NumberTooLarge}
@@ -53,7 +53,7 @@ past_token p k bs b =
     past_bytes p k b.token b.rest (written_some k b.token b.written) (ap (λ l. piece p l) (sym b.cut) ∙ whole p k bs b)
 
 -- past blanks
-past_blanks : (p : ℕ) (blanks rest : List ℕ) → All (λ b. b ≡ 32) blanks → lex (blanks ++ rest) 0 p ≡ lex rest 0 (p + length blanks)
+past_blanks : (p : ℕ) (blanks rest : List ℕ) → AllByRecursion (λ b. b ≡ 32) blanks → lex (blanks ++ rest) 0 p ≡ lex rest 0 (p + length blanks)
 past_blanks p [] rest h = ap (λ q. lex rest 0 q) (omega arith)
 past_blanks p (b ∷ blanks) rest h =
     ap (λ x. lex (x ∷ (blanks ++ rest)) 0 p) h.0 ∙

@@ -1,6 +1,6 @@
 -- What it means that tokens spell a text. Assumes nothing.
 use Rattle.std.specs.Prelude.{◌≡◌, ℕ, ◌+◌, ◌<◌, ◌≤◌, ◌⊎◌, List, [], ◌∷◌, ◌++◌, length, Some, None, Ok, Err, codes, Option, Result, ◌≢◌}
-use Rattle.std.specs.List.{AllByRecursion as All}
+use Rattle.std.specs.List.{AllByRecursion}
 use Rattle.faults.specs.declared.TextFault.{TextFault}
 use Rattle.faults.specs.declared.TextFault.TheVariants.{TooLong, NoToken, TooManyDigits, Unexpected, EighthBracket, NumberTooLarge}
 use Rattle.faults.specs.Numbers.{text_place}
@@ -92,7 +92,7 @@ pub record Apart (bs : List ℕ) : Type 0 where
   pub blanks : List ℕ
   pub rest : List ℕ
   pub cut : bs ≡ blanks ++ rest
-  pub blank : All (λ b. b ≡ 32) blanks
+  pub blank : AllByRecursion (λ b. b ≡ 32) blanks
 
 -- the bytes from place p on are the tokens, with blanks before each, and blanks before the end or the fault
 abbrev pub Spells : ℕ → List ℕ → List Token → Result (Unit {0}) TextFault → Type 0
