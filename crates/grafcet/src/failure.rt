@@ -30,7 +30,10 @@ impl fmt::Display for Failure {
     fn fmt<W: fmt::Write>(&self, f: &mut fmt::Formatter<W>) -> fmt::Result {
         match self {
             Failure::Arguments(error) => write!(f, "the arguments cannot be read: {error}"),
-            Failure::Usage => write!(f, "grafcet\n       grafcet load FILE"),
+            Failure::Usage => write!(
+                f,
+                "grafcet\n       grafcet compile CHART OUT\n       grafcet load FILE"
+            ),
             Failure::Unreadable(error) => write!(f, "cannot be read: {error}"),
             Failure::Refused(fault) => {
                 let place = fault.place();

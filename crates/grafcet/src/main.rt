@@ -2,7 +2,7 @@
 #![tactic(auto)]
 
 ghost use Rattle.std.specs.Prelude.{◌≡◌, map, string_bytes};
-ghost use Rattle.grafcet.specs.Commands.{Asks};
+ghost use Rattle.grafcet.specs.Commands.{Asks, AsksToCompile};
 
 mod cause;
 mod compiling;
@@ -38,21 +38,51 @@ fn command_of(args: &[String]) -> Option<Command<'_>>
     }
 }
 
-// Tells a failure on standard error, and hands it on.
+/// A chart to compile: its file, and that of its code.
+#[derive(Drop)]
+struct Compilation<'a> {
+    chart: &'a str,
+    out: &'a str,
+}
+
+// The command `compile`, which stands apart from those of `command_of`.
+fn compilation_of(args: &[String]) -> Option<Compilation<'_>>
+    ensures { AsksToCompile (map string_bytes args.now) result }
+{
+    match args {
+        [_, word, chart, out] if word.as_str() == "compile" => Some(Compilation {
+            chart: chart.as_str(),
+            out: out.as_str(),
+        }),
+        _ => None,
+    }
+}
+
+// Tells a failure on standard error, unless it is told already, and hands it on.
 fn told(rt: &HostRuntime, subject: &str, res: Result<(), Failure>) -> Result<(), Failure>
     ensures { result ≡ res }
 {
-    if let Err(failure) = &res {
-        let _ = eprintln!(rt; "{subject}: {failure}");
+    match &res {
+        Ok(()) | Err(Failure::Reported) => {}
+        Err(failure) => {
+            let _ = eprintln!(rt; "{subject}: {failure}");
+        }
     }
     res
+}
+
+fn perform_other(rt: &HostRuntime, args: &[String]) -> Result<(), Failure> {
+    match compilation_of(args) {
+        Some(files) => told(rt, files.chart, compiling::run(rt, files.chart, files.out)),
+        None => told(rt, "usage", Err(Failure::Usage)),
+    }
 }
 
 fn perform(rt: &HostRuntime, args: &[String]) -> Result<(), Failure> {
     match command_of(args) {
         Some(Command::Demo) => told(rt, "grafcet", demo::run(rt)),
         Some(Command::Load(path)) => told(rt, path, load::run(rt, path)),
-        None => told(rt, "usage", Err(Failure::Usage)),
+        None => perform_other(rt, args),
     }
 }
 
