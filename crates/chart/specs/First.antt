@@ -1,6 +1,6 @@
 -- The law of the first chart fault: of all faults 7 to 10 that a text has, the one at the least place is answered, and at
 -- one place the one with the smaller number; 11 where there is none. Assumes nothing.
-use Rattle.std.specs.Prelude.{◌≡◌, ℕ, ◌<◌, ◌≤◌, true, ◌⊎◌, List, [], length, get_or, Ok, Err, Result, ◌≢◌, slice_index_or}
+use Rattle.std.specs.Prelude.{◌≡◌, ℕ, ◌<◌, ◌≤◌, true, ◌⊎◌, List, [], length, Ok, Err, Result, ◌≢◌, slice_index_or}
 use Rattle.faults.specs.Numbers.{chart_number, chart_place}
 use Rattle.faults.specs.declared.TextFault.{TextFault}
 use Rattle.faults.specs.declared.ChartFault.{ChartFault}
@@ -36,8 +36,8 @@ pub record InOneList (lists : List (List Number)) (place : ℕ) : Type 0 where
 pub record NotDeclared (declared named : List Number) (place : ℕ) : Type 0 where
   pub index : ℕ
   pub inside : index < length named
-  pub stands : (d : Number) → place ≡ (get_or named index d).place
-  pub none : (i : ℕ) (d : Number) → i < length declared → (get_or declared i d).value ≢ (get_or named index d).value
+  pub stands : (d : Number) → place ≡ (slice_index_or named index d).place
+  pub none : (i : ℕ) (d : Number) → i < length declared → (slice_index_or declared i d).value ≢ (slice_index_or named index d).value
 
 -- the faults 7 to 10 of a text
 abbrev pub FaultOf : List Tree → ChartFault → Type 0

@@ -47,11 +47,11 @@ regular_lengths d size h few =
     let at = eqb-true d.initial.offset 36 first.0 in
     let eight = eqb-true d.initial.length 8 first.1 in
     let clear_at = eqb-true d.clear.offset (end d.initial) clear.0 in
-    let enter-at = eqb-true d.enter.offset (end d.clear) enter.0 in
+    let enter_at = eqb-true d.enter.offset (end d.clear) enter.0 in
     let hold_at = eqb-true d.hold.offset (end d.enter) hold.0 in
     let ends = eqb-true (end d.hold) size last.1 in
     record {
-      whole = omega (arith, at, eight, clear_at, enter-at, hold_at, ends);
+      whole = omega (arith, at, eight, clear_at, enter_at, hold_at, ends);
       clears = eqb-true _ _ clear.1;
       enters = eqb-true _ _ enter.1;
       holds = eqb-true _ _ hold.1;

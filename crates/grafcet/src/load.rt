@@ -9,7 +9,7 @@ use std::fs::File;
 use std::io;
 use std::io::Read;
 
-// A longer file is not read: no code file comes near this length.
+// A longer file is not read: no chart text and no code file comes near this length.
 const LIMIT: usize = 268435456;
 
 pub(crate) fn read_file(rt: &HostRuntime, path: &str) -> io::Result<Vec<u8>>
