@@ -2,9 +2,7 @@
 use Rattle.std.proofs.Common.{◌≡◌, ℕ, ◌+◌, ◌<◌, ◌≤◌, Bool, true, false, cond, leb, List, [], ◌∷◌, ◌++◌, length, sym, refl, ap, ◌∙◌, append_assoc, append-nil, arith, le-leb}
 use Rattle.std.proofs.lemmas.Bool.Decides.{nat_tests}
 use Rattle.faults.specs.declared.TextFault.{TextFault}
-use Rattle.faults.specs.declared.TextFault.TheVariants.{Unexpected, EighthBracket, NumberTooLarge}
-use Rattle.text.specs.declared.token.Letter.{Letter}
-use Rattle.text.specs.declared.token.Letter.TheVariants.{I}
+use Rattle.faults.specs.declared.TextFault.TheVariants.{EighthBracket, NumberTooLarge}
 use Rattle.text.specs.declared.token.Token.{Token}
 use Rattle.text.specs.declared.token.TokenKind.{TokenKind}
 use Rattle.text.specs.declared.token.TokenKind.TheVariants.{Keyword, Digits, Operand, Comma, Dot, Plus, Bang, Open, Close, Slash, Backslash, LineEnd}
@@ -13,12 +11,11 @@ use Rattle.words.specs.declared.instruction.Instruction.TheVariants as instructi
 use Rattle.words.specs.declared.instruction.Instruction.TheVariants.{AndOpen, OrOpen, Not}
 use Rattle.words.specs.Emitted.{Kept, pushed}
 use Rattle.conditions.specs.declared.tree.Atom.{Atom}
-use Rattle.conditions.specs.declared.tree.Atom.TheVariants.{Plain, Rise, Fall, Always}
 use Rattle.conditions.specs.Scan.{Step, State, scan, step, follow, goes, fault, begins, negates, fails, wants, primary, edge, sign, Terms, no_terms, terms, Factors, no_factors, factors, join, edged, Brackets, inside, deep, read}
 use Rattle.conditions.specs.Scan as automaton
 use Rattle.conditions.specs.Tree as tree
 use Rattle.conditions.specs.Tree.{Cond, Term, words, words_term, words_factor, words_primary, loaded, enclosed}
-use Rattle.conditions.specs.Read.{Heads, Lacks, ReadsInput, ReadsAtom, ReadsPrimary, ReadsFactor, ReadsTerm, ReadsCondition, NoInput, NoPrimary, NoFactor, NoTerm, NoCond}
+use Rattle.conditions.specs.Read.{Heads, Lacks, ReadsAtom, ReadsPrimary, ReadsFactor, ReadsTerm, ReadsCondition, NoPrimary, NoFactor, NoTerm, NoCond}
 use Rattle.conditions.proofs.Pushing.{pushed_append}
 
 -- one step of the scan
@@ -34,40 +31,6 @@ numbered at n x h = ap (λ b. cond b (goes x) (fault (NumberTooLarge at))) (le-l
 
 headed : {k : TokenKind} {ts rest : List Token} → Heads k ts rest → length rest + 1 ≡ length ts
 headed h = omega (arith, ap length h.2)
-
-pub no_input : (ts : List Token) (e : ℕ) → length ts ≡ 0 → NoInput e ts (Unexpected e)
-no_input [] e h = record { fails = λ h s p b r. refl }
-no_input (t ∷ ts) e h = absurd (omega arith)
-
-pub input_read : {ts rest : List Token} {t : Token} {n m : ℕ} (e : ℕ) → ts ≡ t ∷ rest → t.kind ≡ Operand I n → (m ≡ n) × (n ≤ 63) → ReadsInput e ts m rest
-input_read {ts} {rest} {t} {n} {m} e at is h = record {
-  passes = λ k s p b r. ahead (Operand I n) (edge k s p b r) (read k s p b (tree.atom (edged r n))) e (t, is, at) (λ p. numbered p n _ h.1) ∙ ap (λ i. scan rest (read k s p b (tree.atom (edged r i))) e) (sym h.0);
-  within = omega (arith, ap length at);
-}
-
-pub plain_read : {ts rest : List Token} {t : Token} {l : Letter} {n m : ℕ} (e : ℕ) → ts ≡ t ∷ rest → t.kind ≡ Operand l n → (m ≡ n) × (n ≤ 63) → ReadsAtom e ts (Plain l m) rest
-plain_read {ts} {rest} {t} {l} {n} {m} e at is h = record {
-  passes = λ k s p b. ahead (Operand l n) (primary k s p b) (read k s p b (tree.atom (Plain l n))) e (t, is, at) (λ p. numbered p n _ h.1) ∙ ap (λ i. scan rest (read k s p b (tree.atom (Plain l i))) e) (sym h.0);
-  within = omega (arith, ap length at);
-}
-
-pub always_read : {ts rest : List Token} {t : Token} {n : ℕ} (e : ℕ) → ts ≡ t ∷ rest → t.kind ≡ Digits n → n ≡ 1 → ReadsAtom e ts Always rest
-always_read {ts} {rest} {t} e at was one = let is : t.kind ≡ Digits 1 = was ∙ ap (λ i. Digits i) one in record {
-  passes = λ k s p b. ahead (Digits 1) (primary k s p b) (read k s p b (tree.atom Always)) e (t, is, at) (λ p. refl);
-  within = omega (arith, ap length at);
-}
-
-pub rise_read : {ts after rest : List Token} {t : Token} {n : ℕ} (e : ℕ) → ts ≡ t ∷ after → t.kind ≡ Slash → ReadsInput e after n rest → ReadsAtom e ts (Rise n) rest
-rise_read {t = t} e at is r = record {
-  passes = λ k s p b. ahead Slash (primary k s p b) (edge k s p b true) e (t, is, at) (λ p. refl) ∙ r.passes k s p b true;
-  within = omega (arith, ap length at, r.within);
-}
-
-pub fall_read : {ts after rest : List Token} {t : Token} {n : ℕ} (e : ℕ) → ts ≡ t ∷ after → t.kind ≡ Backslash → ReadsInput e after n rest → ReadsAtom e ts (Fall n) rest
-fall_read {t = t} e at is r = record {
-  passes = λ k s p b. ahead Backslash (primary k s p b) (edge k s p b false) e (t, is, at) (λ p. refl) ∙ r.passes k s p b false;
-  within = omega (arith, ap length at, r.within);
-}
 
 -- a factor with a `!`
 pub bang_on : (h : Brackets) (s : Terms) (p : Factors) (e : ℕ) {ts after : List Token} → Heads Bang ts after → scan ts (wants h s p) e ≡ scan after (primary h s p true) e

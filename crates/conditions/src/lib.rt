@@ -2,4 +2,6 @@
 #![tactic(auto)]
 
 pub mod condition;
+mod depth;
+pub mod rest;
 pub mod tree;

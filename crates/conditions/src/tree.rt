@@ -2,7 +2,7 @@
 use text::token::Letter;
 
 /// An operand of a condition.
-#[derive(Clone, Copy)]
+#[derive(Clone, Copy, PartialEq, Eq, Debug)]
 pub enum Atom {
     Plain(Letter, u8),
     Rise(u8),

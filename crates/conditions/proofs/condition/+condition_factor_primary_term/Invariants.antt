@@ -1,34 +1,34 @@
-use Rattle.std.proofs.Common.{◌+◌, ◌*◌, ◌≤◌, List, length}
+use Rattle.std.proofs.Common.{◌≡◌, ◌+◌, ◌*◌, ◌≤◌, List, length}
 use Rattle.text.specs.declared.token.Token.{Token}
 use Rattle.words.specs.Emitted.{Kept, kept_in}
 use Rattle.conditions.proofs.Steps.{SoFar, TermSoFar}
 use Rattle.conditions.proofs.condition.+condition_factor_primary_term.Given as goal
 
 abbrev pub decreases-condition : goal.decreases-condition
-decreases-condition l = 4 * length l.tokens.now + 3
+decreases-condition l = 4 * length l.input.tokens.now + 3
 
 abbrev pub decreases-term : goal.decreases-term
-decreases-term l = 4 * length l.tokens.now + 2
+decreases-term l = 4 * length l.input.tokens.now + 2
 
 abbrev pub decreases-factor : goal.decreases-factor
-decreases-factor l = 4 * length l.tokens.now + 1
+decreases-factor l = 4 * length l.input.tokens.now + 1
 
 abbrev pub decreases-primary : goal.decreases-primary
-decreases-primary l = 4 * length l.tokens.now
+decreases-primary l = 4 * length l.input.tokens.now
 
 -- whatever is read up to where the loop began is read up to here
 abbrev pub invariant-condition-loop-after : goal.invariant-condition-loop-after
 invariant-condition-loop-after l =
-    (length l.rest ≤ length l.initial.rest) ×
-    ((ts : List Token) (before : Kept) → SoFar l.depth l.end ts before l.initial.rest (kept_in l.initial.out) → SoFar l.depth l.end ts before l.rest (kept_in l.out))
+    (length l.rest.tokens.now ≤ length l.initial.rest.tokens.now) × (l.rest.end ≡ l.input.end) ×
+    ((ts : List Token) (before : Kept) → SoFar l.depth.brackets l.input.end ts before l.initial.rest.tokens.now (kept_in l.initial.out) → SoFar l.depth.brackets l.input.end ts before l.rest.tokens.now (kept_in l.out))
 
 abbrev pub decreases-condition-loop-after : goal.decreases-condition-loop-after
-decreases-condition-loop-after l = length l.rest
+decreases-condition-loop-after l = length l.rest.tokens.now
 
 abbrev pub invariant-term-loop-after : goal.invariant-term-loop-after
 invariant-term-loop-after l =
-    (length l.rest ≤ length l.initial.rest) ×
-    ((ts : List Token) (before : Kept) → TermSoFar l.depth l.end ts before l.initial.rest (kept_in l.initial.out) → TermSoFar l.depth l.end ts before l.rest (kept_in l.out))
+    (length l.rest.tokens.now ≤ length l.initial.rest.tokens.now) × (l.rest.end ≡ l.input.end) ×
+    ((ts : List Token) (before : Kept) → TermSoFar l.depth.brackets l.input.end ts before l.initial.rest.tokens.now (kept_in l.initial.out) → TermSoFar l.depth.brackets l.input.end ts before l.rest.tokens.now (kept_in l.out))
 
 abbrev pub decreases-term-loop-after : goal.decreases-term-loop-after
-decreases-term-loop-after l = length l.rest
+decreases-term-loop-after l = length l.rest.tokens.now
