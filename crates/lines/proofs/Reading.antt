@@ -2,6 +2,8 @@
 use Rattle.std.proofs.Common.{◌≡◌, ℕ, ◌-◌, Bool, true, false, cond, eqb, List, [], ◌∷◌, ◌++◌, length, take, sym, refl, ap, ◌∙◌, append_assoc, append-nil, arith, length-append, le-leb, true-eqb}
 use lib.Seq.{take-append-le}
 use Rattle.std.proofs.lemmas.List.{take_all}
+use Rattle.std.proofs.lemmas.Result.{MatchResult-weaker}
+use Rattle.std.specs.Prelude.{MatchResult, Result}
 use Rattle.text.specs.declared.token.Word.{Word}
 use Rattle.text.specs.declared.token.Word.TheVariants.{Step, Initial, Trans, From, To, When, Hold, Enter, Set, Reset}
 use Rattle.faults.specs.declared.TextFault.{TextFault}
@@ -10,6 +12,7 @@ use Rattle.text.specs.declared.token.Token.{Token}
 use Rattle.text.specs.declared.token.TokenKind.{TokenKind}
 use Rattle.text.specs.declared.token.TokenKind.TheVariants.{Keyword, Digits, Operand, Comma, Dot, Plus, Bang, Open, Close, Slash, Backslash, LineEnd}
 use Rattle.conditions.specs.Read.{Heads, Lacks}
+use Rattle.conditions.specs.declared.rest.Rest.{Rest}
 use Rattle.conditions.specs.Tree.{Cond}
 use Rattle.conditions.specs.Scan as condition
 use Rattle.lines.specs.declared.shape.Number.{Number}
@@ -27,7 +30,7 @@ use Rattle.lines.specs.Grammar as line
 use Rattle.lines.specs.Grammar.{Numbers, one, more, items, digits, Small}
 use Rattle.lines.specs.Scan as automaton
 use Rattle.lines.specs.Scan.{State, Move, scan, step, follow, goes, done, fault, fails, number, output, word, listed, initial, verb, guard, end, same, only, stepping, entering, transing, start, noted, refs, guarded}
-use Rattle.lines.specs.Parts.{ReadsNumber, NoNumber, NoOutput, ReadsWord, NoWord, ReadsEnd, ReadsList, NoList, LineFrom, QuietFrom, NoLineFrom, counted, numbers_in}
+use Rattle.lines.specs.Parts.{ReadsNumber, NoNumber, ReadsWord, NoWord, ReadsEnd, ReadsList, NoList, LineFrom, QuietFrom, NoLineFrom, counted, numbers_in}
 use Rattle.lines.specs.Guards.{step_tests}
 
 -- one step of the scan
@@ -106,19 +109,6 @@ unless_set n at LineEnd h = refl
 
 pub not_set : {e : ℕ} {ts rest : List Token} {n : Number} → ReadsNumber e ts n rest → Lacks (Keyword Set) rest → scan ts entering e ≡ scan rest (word Reset (output (λ q. end (line.enter n action.Reset q)))) e
 not_set {e} {ts} {rest} {n} r l = r.passes (λ n. verb n) ∙ alike (Keyword Set) (verb n) (word Reset (output (λ q. end (line.enter n action.Reset q)))) e rest (λ at k h. unless_set n at k h) refl l
-
--- where the tokens run out
-pub ends_out : (ts : List Token) (e : ℕ) → length ts ≡ 0 → ReadsEnd e ts ts
-ends_out [] e h = record { passes = λ l. refl }
-ends_out (t ∷ ts) e h = absurd (omega arith)
-
-pub no_number : (ts : List Token) (e : ℕ) → length ts ≡ 0 → NoNumber e ts (Unexpected e)
-no_number [] e h = record { fails = λ k. refl }
-no_number (t ∷ ts) e h = absurd (omega arith)
-
-pub no_output : (ts : List Token) (e : ℕ) → length ts ≡ 0 → NoOutput e ts (Unexpected e)
-no_output [] e h = record { fails = λ k. refl }
-no_output (t ∷ ts) e h = absurd (omega arith)
 
 -- the tokens before a rest
 pub used_part : (used rest toks : List Token) (m : ℕ) → toks ≡ used ++ rest → m ≡ length toks - length rest → take m toks ≡ used
@@ -295,6 +285,10 @@ begun {e} {w = w} {x} t k i h s q = let r = quietly k q in record { tree = r.tre
 
 pub not_begun : {e : ℕ} {ts rest : List Token} {w : Word} {x : State} {f : TextFault} (t : Token) → t.kind ≡ Keyword w → ts ≡ t ∷ rest → ((at : ℕ) → step start at (Keyword w) ≡ goes x) → NoLineFrom x e rest f → NoLineFrom start e ts f
 not_begun {e} {w = w} {x} t i h s q = record { fails = ahead (Keyword w) start x e (t, i, h) s ∙ q.fails }
+
+-- what a reader of the rest of a line answers, behind the line's first word
+pub begun_line : (w : Word) (e : ℕ) {ts rest : List Token} {x : State} (t : Token) (k : Kept) (r : Result (Line × Rest) TextFault) → t.kind ≡ Keyword w → ts ≡ t ∷ rest → ((at : ℕ) → step start at (Keyword w) ≡ goes x) → MatchResult r (λ p. QuietFrom x e rest p.0 p.1.tokens.now) (λ f. NoLineFrom x e rest f) → MatchResult r (λ p. LineFrom start e ts p.0 p.1.tokens.now k k) (λ f. NoLineFrom start e ts f)
+begun_line w e t k r i h s q = MatchResult-weaker r q (λ p q. begun t k i h s q) (λ f q. not_begun t i h s q)
 
 pub ended_at_once : {ts rest : List Token} (t : Token) (e : ℕ) (k : Kept) → t.kind ≡ LineEnd → ts ≡ t ∷ rest → LineFrom start e ts code.Empty rest k k
 unfolding pushed

@@ -1,90 +1,70 @@
-//! What a line is made of: numbers, outputs, words and lists. Each reader takes the tokens that are left, and answers those
-//! that are left behind what it reads; `end` is the place where they run out.
-ghost use Rattle.std.specs.Result.{MatchResult};
+//! What a line is made of: numbers, outputs, words and lists. Each reader takes what is left of the tokens, and answers what
+//! is left behind what it reads.
+ghost use Rattle.std.specs.Prelude.{◌≡◌, IfOk, MatchResult};
 ghost use Rattle.lines.specs.Parts.{ReadsNumber, NoNumber, ReadsOutput, NoOutput, ReadsWord, NoWord, ReadsEnd, NoEnd, ReadsList, NoList};
 
 use crate::shape::Number;
-use conditions::condition::{behind, place_of, small};
+use conditions::rest::{Rest, small};
 use faults::TextFault;
 use text::token::{Letter, Token, TokenKind, Word};
 
-pub(crate) fn number<'a>(
-    tokens: &'a [Token],
-    end: usize,
-) -> Result<(Number, &'a [Token]), TextFault>
-    ensures { MatchResult result (λ p. ReadsNumber end tokens.now p.0 p.1.now) (λ f. NoNumber end tokens.now f) }
+pub(crate) fn number<'a>(input: Rest<'a>) -> Result<(Number, Rest<'a>), TextFault>
+    ensures reads { MatchResult result (λ p. ReadsNumber input.entry.end input.entry.tokens.now p.0 p.1.tokens.now) (λ f. NoNumber input.entry.end input.entry.tokens.now f) }
+    ensures same_end { IfOk result (λ p. p.1.end ≡ input.entry.end) }
 {
-    let Some((first, rest)) = tokens.split_first() else {
-        return Err(TextFault::Unexpected(end));
-    };
+    let (first, rest) = input.next()?;
     match first.kind {
         TokenKind::Digits(n) => {
-            let value = small(n, first.place)?;
             let place = first.place;
+            let value = small(n, place)?;
             Ok((Number { value, place }, rest))
         }
         _ => Err(TextFault::Unexpected(first.place)),
     }
 }
 
-pub(crate) fn output<'a>(
-    tokens: &'a [Token],
-    end: usize,
-) -> Result<(Number, &'a [Token]), TextFault>
-    ensures { MatchResult result (λ p. ReadsOutput end tokens.now p.0 p.1.now) (λ f. NoOutput end tokens.now f) }
+pub(crate) fn output<'a>(input: Rest<'a>) -> Result<(Number, Rest<'a>), TextFault>
+    ensures reads { MatchResult result (λ p. ReadsOutput input.entry.end input.entry.tokens.now p.0 p.1.tokens.now) (λ f. NoOutput input.entry.end input.entry.tokens.now f) }
+    ensures same_end { IfOk result (λ p. p.1.end ≡ input.entry.end) }
 {
-    let Some((first, rest)) = tokens.split_first() else {
-        return Err(TextFault::Unexpected(end));
-    };
-    match first.kind {
-        TokenKind::Operand(Letter::Q, n) => {
-            let value = small(n, first.place)?;
-            let place = first.place;
-            Ok((Number { value, place }, rest))
-        }
-        _ => Err(TextFault::Unexpected(first.place)),
-    }
+    let place = input.place();
+    let (value, rest) = input.operand(Letter::Q)?;
+    Ok((Number { value, place }, rest))
 }
 
-pub(crate) fn word<'a>(
-    tokens: &'a [Token],
-    word: Word,
-    end: usize,
-) -> Result<&'a [Token], TextFault>
-    ensures { MatchResult result (λ rest. ReadsWord word end tokens.now rest.now) (λ f. NoWord word end tokens.now f) }
+pub(crate) fn word<'a>(input: Rest<'a>, word: Word) -> Result<Rest<'a>, TextFault>
+    ensures reads { MatchResult result (λ rest. ReadsWord word input.entry.end input.entry.tokens.now rest.tokens.now) (λ f. NoWord word input.entry.end input.entry.tokens.now f) }
+    ensures same_end { IfOk result (λ rest. rest.end ≡ input.entry.end) }
 {
-    match behind(tokens, TokenKind::Keyword(word)) {
-        Some(rest) => Ok(rest),
-        None => Err(TextFault::Unexpected(place_of(tokens, end))),
-    }
+    let other = TextFault::Unexpected(input.place());
+    input.behind(TokenKind::Keyword(word)).ok_or(other)
 }
 
 /// The end of the line.
-pub(crate) fn finish<'a>(tokens: &'a [Token], end: usize) -> Result<&'a [Token], TextFault>
-    ensures { MatchResult result (λ rest. ReadsEnd end tokens.now rest.now) (λ f. NoEnd end tokens.now f) }
+pub(crate) fn finish<'a>(input: Rest<'a>) -> Result<Rest<'a>, TextFault>
+    ensures reads { MatchResult result (λ rest. ReadsEnd input.entry.end input.entry.tokens.now rest.tokens.now) (λ f. NoEnd input.entry.end input.entry.tokens.now f) }
+    ensures same_end { IfOk result (λ rest. rest.end ≡ input.entry.end) }
 {
-    let Some((first, rest)) = tokens.split_first() else {
-        return Ok(tokens);
-    };
-    match first.kind {
-        TokenKind::LineEnd => Ok(rest),
-        _ => Err(TextFault::Unexpected(first.place)),
+    match input.tokens {
+        [] => Ok(input),
+        [first, tokens @ ..] if first.kind == TokenKind::LineEnd => Ok(Rest { tokens, ..input }),
+        [first, ..] => Err(TextFault::Unexpected(first.place)),
     }
 }
 
 /// Numbers with `,` between them, up to the word: their tokens and the word, and those behind.
-pub(crate) fn list<'a>(
-    tokens: &'a [Token],
-    until: Word,
-    end: usize,
-) -> Result<(&'a [Token], &'a [Token]), TextFault>
-    ensures { MatchResult result (λ p. ReadsList until end tokens.now p.0.now p.1.now) (λ f. NoList until end tokens.now f) }
+pub(crate) fn list<'a>(input: Rest<'a>, until: Word) -> Result<(&'a [Token], Rest<'a>), TextFault>
+    ensures reads { MatchResult result (λ p. ReadsList until input.entry.end input.entry.tokens.now p.0.now p.1.tokens.now) (λ f. NoList until input.entry.end input.entry.tokens.now f) }
+    ensures same_end { IfOk result (λ p. p.1.end ≡ input.entry.end) }
 {
-    let (_, mut rest) = number(tokens, end)?;
-    while let Some(after) = behind(rest, TokenKind::Comma) {
-        let (_, left) = number(after, end)?;
+    let (_, mut rest) = number(input)?;
+    while let Some(after) = rest.behind(TokenKind::Comma) {
+        let (_, left) = number(after)?;
         rest = left;
     }
-    let left = word(rest, until, end)?;
-    Ok((&tokens[0..tokens.len() - left.len()], left))
+    let left = word(rest, until)?;
+    Ok((
+        &input.tokens[..input.tokens.len() - left.tokens.len()],
+        left,
+    ))
 }

@@ -2,7 +2,7 @@
 use text::token::Token;
 
 /// A number up to 63, with the place of its token.
-#[derive(Clone, Copy)]
+#[derive(Clone, Copy, PartialEq, Eq, Debug)]
 pub struct Number {
     pub value: u8,
     pub place: usize,
@@ -10,7 +10,7 @@ pub struct Number {
 
 /// A transition: the tokens of its preceding and its succeeding steps, each with the word that ends the list, and those of
 /// its condition.
-#[derive(Clone, Copy)]
+#[derive(Clone, Copy, PartialEq, Eq, Debug)]
 pub struct Transition<'a> {
     pub number: Number,
     pub from: &'a [Token],
@@ -19,13 +19,13 @@ pub struct Transition<'a> {
 }
 
 /// What happens to an output when its step becomes active.
-#[derive(Clone, Copy)]
+#[derive(Clone, Copy, PartialEq, Eq, Debug)]
 pub enum Action {
     Set,
     Reset,
 }
 
-#[derive(Clone, Copy)]
+#[derive(Clone, Copy, PartialEq, Eq, Debug)]
 pub enum Line<'a> {
     Empty,
     /// A step, and whether it is initial.

@@ -1,36 +1,19 @@
-use Rattle.std.proofs.Common.{◌≡◌, ◌∷◌, refl, rules}
+use Rattle.std.proofs.Common.{refl, rules}
 use Rattle.text.specs.declared.token.Word.TheVariants.{Step, Hold, Enter}
-use Rattle.text.specs.declared.token.TokenKind.TheVariants.{Keyword}
-use Rattle.std.proofs.lemmas.Result.{MatchResult-weaker}
-use Rattle.lines.proofs.Reading.{none_left, begun, not_begun, ended_at_once}
+use Rattle.lines.proofs.Reading.{none_left, begun_line, ended_at_once}
 use Rattle.lines.proofs.line.read.Goals as goal
 
-pub returns-in_default : goal.returns-in_default
-returns-in_default c = none_left _ _ _ c.in_default.ensures.cases
+pub returns-then-is_empty-clause-reads : goal.returns-then-is_empty-clause-reads
+returns-then-is_empty-clause-reads c = none_left _ _ _ (search rules)
 
-pub returns-in-LineEnd : goal.returns-in-LineEnd
-returns-in-LineEnd c =
-    let t = c.in-Some.first.now in
-    let h : c.args.tokens.now ≡ t ∷ c.in-Some.rest.now = search rules in
-    ended_at_once t _ _ c.in-LineEnd.is h
+pub returns-in-LineEnd-clause-reads : goal.returns-in-LineEnd-clause-reads
+returns-in-LineEnd-clause-reads c = ended_at_once c.in_ok-first.first _ _ c.in-LineEnd.is c.in_ok-first.ensures.token
 
-pub returns-in-Keyword-Step : goal.returns-in-Keyword-Step
-returns-in-Keyword-Step c =
-    let t = c.in-Some.first.now in
-    let i : c.in-Some.first.now.kind ≡ Keyword Step = search rules in
-    let h : c.args.tokens.now ≡ t ∷ c.in-Some.rest.now = search rules in
-    MatchResult-weaker c.step.result c.step.ensures (λ p r. begun t _ i h (λ at. refl) r) (λ f r. not_begun t i h (λ at. refl) r)
+pub returns-in-Keyword-Step-clause-reads : goal.returns-in-Keyword-Step-clause-reads
+returns-in-Keyword-Step-clause-reads c = begun_line Step _ c.in_ok-first.first _ _ (search rules) c.in_ok-first.ensures.token (λ at. refl) (rw c.in_ok-first.ensures.same_end at c.step.ensures.reads)
 
-pub returns-in-Keyword-Hold : goal.returns-in-Keyword-Hold
-returns-in-Keyword-Hold c =
-    let t = c.in-Some.first.now in
-    let i : c.in-Some.first.now.kind ≡ Keyword Hold = search rules in
-    let h : c.args.tokens.now ≡ t ∷ c.in-Some.rest.now = search rules in
-    MatchResult-weaker c.hold.result c.hold.ensures (λ p r. begun t _ i h (λ at. refl) r) (λ f r. not_begun t i h (λ at. refl) r)
+pub returns-in-Keyword-Hold-clause-reads : goal.returns-in-Keyword-Hold-clause-reads
+returns-in-Keyword-Hold-clause-reads c = begun_line Hold _ c.in_ok-first.first _ _ (search rules) c.in_ok-first.ensures.token (λ at. refl) (rw c.in_ok-first.ensures.same_end at c.hold.ensures.reads)
 
-pub returns-in-Keyword-Enter : goal.returns-in-Keyword-Enter
-returns-in-Keyword-Enter c =
-    let t = c.in-Some.first.now in
-    let i : c.in-Some.first.now.kind ≡ Keyword Enter = search rules in
-    let h : c.args.tokens.now ≡ t ∷ c.in-Some.rest.now = search rules in
-    MatchResult-weaker c.enter.result c.enter.ensures (λ p r. begun t _ i h (λ at. refl) r) (λ f r. not_begun t i h (λ at. refl) r)
+pub returns-in-Keyword-Enter-clause-reads : goal.returns-in-Keyword-Enter-clause-reads
+returns-in-Keyword-Enter-clause-reads c = begun_line Enter _ c.in_ok-first.first _ _ (search rules) c.in_ok-first.ensures.token (λ at. refl) (rw c.in_ok-first.ensures.same_end at c.enter.ensures.reads)
