@@ -9,12 +9,12 @@ ghost use Rattle.translation.specs.Drafts.{sketch_of, blank, noted, closed, Read
 
 use crate::draft::Draft;
 use crate::emit::{emit_all, emit_switches, entering, holding};
+use conditions::rest::Rest;
 use faults::TextFault;
 use frames::bits::with_on;
 use lines::line::read_line;
 use lines::shape::{Action, Line, Number};
 use std::alloc::{AllocError, Global};
-use text::token::Token;
 use words::list::WordList;
 
 // The frame of the initial steps, with this step if it is initial.
@@ -84,12 +84,12 @@ impl Draft {
     }
 
     // Takes the lines of a text, with the words that test their transitions.
-    fn read(&mut self, tokens: &[Token], end: usize) -> Result<(), TextFault>
-        ensures { Reads (read_lines tokens.now between end) (sketch_of self.old) (sketch_of self.new) result }
+    fn read(&mut self, text: Rest<'_>) -> Result<(), TextFault>
+        ensures { Reads (read_lines text.entry.tokens.now between text.entry.end) (sketch_of self.old) (sketch_of self.new) result }
     {
-        let mut rest = tokens;
-        while !rest.is_empty() {
-            let (line, behind) = read_line(rest, end, &mut self.clear)?;
+        let mut rest = text;
+        while !rest.tokens.is_empty() {
+            let (line, behind) = read_line(rest, &mut self.clear)?;
             self.note(line);
             rest = behind;
         }
@@ -104,13 +104,13 @@ impl Draft {
         self.clear.append(&self.sets);
     }
 
-    /// Drafts the parts of a text, or names its first fault; `end` is the place where the tokens run out.
-    pub fn translate(&mut self, tokens: &[Token], end: usize) -> Result<(), TextFault>
-        ensures drafted { Translated (read_lines tokens.now between end) self.new result }
-        ensures sound { (lines : List Tree) → read_lines tokens.now between end ≡ Ok lines → SoundParts lines }
+    /// Drafts the parts of a text, or names its first fault.
+    pub fn translate(&mut self, text: Rest<'_>) -> Result<(), TextFault>
+        ensures drafted { Translated (read_lines text.entry.tokens.now between text.entry.end) self.new result }
+        ensures sound { (lines : List Tree) → read_lines text.entry.tokens.now between text.entry.end ≡ Ok lines → SoundParts lines }
     {
         self.erase();
-        self.read(tokens, end)?;
+        self.read(text)?;
         self.close();
         Ok(())
     }

@@ -10,9 +10,9 @@ pub returns : goal.returns
 returns c =
     record {
       drafted =
-          translated (read_lines c.args.tokens.now between c.args.end) (sketch_of c.erase.new.self) (sketch_of c.read.new.self) c.close.new.self
+          translated (read_lines c.args.text.tokens.now between c.args.text.end) (sketch_of c.erase.new.self) (sketch_of c.read.new.self) c.close.new.self
           c.erase.ensures c.in_ok-read.ensures c.close.ensures;
-      sound = text_sound c.args.tokens.now c.args.end;
+      sound = text_sound c.args.text.tokens.now c.args.text.end;
     }
 
 pub returns-in_err-read : goal.returns-in_err-read
@@ -20,7 +20,7 @@ returns-in_err-read c =
     let p = err_from_is_err_and c.from_residual.result c.from_residual.ensures.1 in
     record {
       drafted =
-          not_translated (read_lines c.args.tokens.now between c.args.end) (sketch_of c.erase.new.self) (sketch_of c.read.new.self) c.read.new.self c.in_err-read.field-0.0 c.from_residual.result
+          not_translated (read_lines c.args.text.tokens.now between c.args.text.end) (sketch_of c.erase.new.self) (sketch_of c.read.new.self) c.read.new.self c.in_err-read.field-0.0 c.from_residual.result
           c.in_err-read.ensures (p.1 ∙ ap (λ f. Err f) p.2);
-      sound = text_sound c.args.tokens.now c.args.end;
+      sound = text_sound c.args.text.tokens.now c.args.text.end;
     }
