@@ -87,15 +87,14 @@ before_put ls l (Err f) = refl
 pub left_all : (ts : List Token) (e : ℕ) → Left ts e [] ts
 left_all ts e = before_none (read_lines ts between e)
 
-pub left_less : (ts rest after : List Token) (e : ℕ) (ls : List Tree) (l : Tree) → Left ts e ls rest → 0 < length rest → scan rest start e ≡ reads l after → Left ts e (ls ++ l ∷ []) after
-left_less ts rest after e ls l h n r = h ∙ ap (λ z. before ls z) (first_line rest after e l n r) ∙ before_put ls l (read_lines after between e)
+pub left_less : (ts rest after : List Token) (e : ℕ) (ls : List Tree) (l : Tree) → Left ts e ls rest → read_lines rest between e ≡ put l (read_lines after between e) → Left ts e (ls ++ l ∷ []) after
+left_less ts rest after e ls l h first = h ∙ ap (λ z. before ls z) first ∙ before_put ls l (read_lines after between e)
 
-pub left_fails : (ts rest : List Token) (e : ℕ) (ls : List Tree) (f : TextFault) → Left ts e ls rest → 0 < length rest → scan rest start e ≡ fails f → read_lines ts between e ≡ Err f
-left_fails ts rest e ls f h n r = h ∙ ap (λ z. before ls z) (first_fails rest e f n r)
+pub left_fails : (ts rest : List Token) (e : ℕ) (ls : List Tree) (f : TextFault) → Left ts e ls rest → read_lines rest between e ≡ Err f → read_lines ts between e ≡ Err f
+left_fails ts rest e ls f h failing = h ∙ ap (λ z. before ls z) failing
 
-pub left_none : (ts rest : List Token) (e : ℕ) (ls : List Tree) → Left ts e ls rest → length rest ≡ 0 → read_lines ts between e ≡ Ok ls
-left_none ts [] e ls h n = h ∙ ap (λ z. Ok z) (append-nil ls)
-left_none ts (t ∷ rest) e ls h n = absurd (omega arith)
+pub left_none : (ts rest : List Token) (e : ℕ) (ls : List Tree) → Left ts e ls rest → rest ≡ [] → read_lines ts between e ≡ Ok ls
+left_none ts rest e ls h none = h ∙ ap (λ rest. before ls (read_lines rest between e)) none ∙ ap (λ z. Ok z) (append-nil ls)
 
 -- the lines of a text
 before_lines : (l : Tree) (ls : List Tree) (r : Lines) → put l (before ls r) ≡ before (l ∷ ls) r

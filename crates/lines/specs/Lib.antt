@@ -4,3 +4,4 @@ pub mod Guards
 pub mod Text
 pub mod Laws
 pub mod Parts
+pub mod Next

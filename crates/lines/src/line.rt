@@ -4,6 +4,7 @@ ghost use Rattle.words.specs.Emitted.{kept_in};
 ghost use Rattle.lines.specs.Scan.{scan, fails, start, stepping, transing, holding, entering};
 ghost use Rattle.lines.specs.Laws.{Only, Nowhere, Stuck};
 ghost use Rattle.lines.specs.Parts.{ReadsLine, LineFrom, QuietFrom, NoLineFrom};
+ghost use Rattle.lines.specs.Next.{NextLine};
 
 use crate::parts::{finish, list, number, output, word};
 use crate::shape::{Action, Line, Transition};
@@ -26,6 +27,20 @@ pub fn read_line<'a>(
     ensures same_end { IfOk result (λ p. p.1.end ≡ input.entry.end) }
 {
     read(input, guards)
+}
+
+/// The next line of a text and what is left behind it, or None where no token is left.
+pub fn next_line<'a>(
+    input: Rest<'a>,
+    guards: &mut WordList,
+) -> Result<Option<(Line<'a>, Rest<'a>)>, TextFault>
+    ensures { NextLine input.entry.tokens.now input.entry.end (kept_in guards.old) (kept_in guards.new) result }
+{
+    if input.tokens.is_empty() {
+        return Ok(None);
+    }
+    let (line, rest) = read_line(input, guards)?;
+    Ok(Some((line, rest)))
 }
 
 fn read<'a>(input: Rest<'a>, guards: &mut WordList) -> Result<(Line<'a>, Rest<'a>), TextFault>

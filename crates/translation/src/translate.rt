@@ -12,7 +12,7 @@ use crate::emit::{emit_all, emit_switches, entering, holding};
 use conditions::rest::Rest;
 use faults::TextFault;
 use frames::bits::with_on;
-use lines::line::read_line;
+use lines::line::next_line;
 use lines::shape::{Action, Line, Number};
 use std::alloc::{AllocError, Global};
 use words::list::WordList;
@@ -88,8 +88,7 @@ impl Draft {
         ensures { Reads (read_lines text.entry.tokens.now between text.entry.end) (sketch_of self.old) (sketch_of self.new) result }
     {
         let mut rest = text;
-        while !rest.tokens.is_empty() {
-            let (line, behind) = read_line(rest, &mut self.clear)?;
+        while let Some((line, behind)) = next_line(rest, &mut self.clear)? {
             self.note(line);
             rest = behind;
         }

@@ -5,8 +5,8 @@ use Rattle.translation.specs.Drafts.{sketch_of, read_all}
 use Rattle.translation.proofs.draft.Draft.read.Given as goal
 
 -- some lines are read, and what is left, behind them, gives the whole
-abbrev pub invariant-loop-rest : goal.invariant-loop-rest
-invariant-loop-rest l = (l.rest.end ≡ l.text.end) × ((ls : List Tree) × Left l.text.tokens.now l.text.end ls l.rest.tokens.now × (sketch_of l.self ≡ read_all (sketch_of l.initial.self) ls))
+abbrev pub invariant-loop-line : goal.invariant-loop-line
+invariant-loop-line l = (l.rest.end ≡ l.text.end) × ((ls : List Tree) × Left l.text.tokens.now l.text.end ls l.rest.tokens.now × (sketch_of l.self ≡ read_all (sketch_of l.initial.self) ls))
 
-abbrev pub decreases-loop-rest : goal.decreases-loop-rest
-decreases-loop-rest l = length l.rest.tokens.now
+abbrev pub decreases-loop-line : goal.decreases-loop-line
+decreases-loop-line l = length l.rest.tokens.now

@@ -1,0 +1,24 @@
+use Rattle.std.proofs.Common.{◌<◌, length, rules}
+use Rattle.std.proofs.lemmas.Result.{err_from_is_err_and}
+use Rattle.lines.proofs.WholeText.{first_line, first_fails}
+use Rattle.lines.proofs.line.next_line.Goals as goal
+
+pub returns-in_err-line : goal.returns-in_err-line
+returns-in_err-line c =
+    let p = err_from_is_err_and c.from_residual.result c.from_residual.ensures.1 in
+    let some : 0 < length c.args.input.tokens.now = search rules in
+    rw (p.1, p.2) (first_fails _ _ _ some c.in_err-line.ensures.reads)
+
+pub returns : goal.returns
+returns c =
+    let some : 0 < length c.args.input.tokens.now = search rules in
+    let line = c.in_ok-line.ensures.reads in
+    record {
+      tree = line.tree;
+      first = first_line _ _ _ _ some line.is;
+      shown = line.shown;
+      fits = line.fits;
+      emitted = line.emitted;
+      same_end = c.in_ok-line.ensures.same_end;
+      shorter = line.shorter some;
+    }
