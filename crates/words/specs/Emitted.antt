@@ -1,5 +1,5 @@
 -- Words as they are emitted, one behind the other: the first 4,096 are kept. Assumes nothing.
-use Rattle.std.specs.Prelude.{ℕ, Bool, true, false, cond, ◌||◌, List, [], ◌∷◌, ◌++◌, length, take, vec_items, nat_lt}
+use Rattle.std.specs.Prelude.{ℕ, Bool, true, false, cond, ◌||◌, List, [], ◌∷◌, ◌++◌, length, take, nat_lt}
 use Rattle.words.specs.declared.instruction.Instruction.{Instruction}
 use Rattle.words.specs.declared.list.WordList.{WordList}
 use Rattle.words.specs.Words.{word_of}
@@ -13,7 +13,7 @@ abbrev pub nothing : Kept
 nothing = record { words = []; more = false }
 
 abbrev pub kept_in : WordList → Kept
-kept_in l = record { words = vec_items l.words; more = l.more }
+kept_in l = record { words = l.words; more = l.more }
 
 abbrev pub push : Kept → ℕ → Kept
 push k w =
