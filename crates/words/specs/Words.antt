@@ -41,6 +41,11 @@ abbrev pub target_number : Target → ℕ
 target_number (target.Step n) = n
 target_number (target.Output n) = n
 
+-- the operand that reads what the target sets and resets
+abbrev pub read_of : Target → Operand
+read_of (target.Step n) = Step n
+read_of (target.Output n) = Output n
+
 abbrev pub operator_in : Instruction → ℕ
 operator_in (Load x) = 1
 operator_in (LoadNot x) = 2

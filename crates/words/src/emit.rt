@@ -28,7 +28,7 @@ impl WordList {
     pub fn push(&mut self, instruction: Instruction)
         ensures { kept_in self.new ≡ pushed (kept_in self.old) (instruction ∷ []) }
     {
-        self.put(instruction.any_word());
+        self.put(instruction.word());
     }
 
     // Puts a word behind the others, or notes that there was no room for it.
