@@ -14,43 +14,26 @@ struct Fields {
 }
 
 impl Operand {
-    fn area(self) -> u8
-        ensures value { result ≡ operand_area self }
-        ensures few { result < 16 }
-    {
-        match self {
-            Operand::Input(_) => 1,
-            Operand::Step(_) => 2,
-            Operand::Output(_) => 3,
-            Operand::Rise(_) => 4,
-            Operand::Fall(_) => 5,
-            Operand::Always => 6,
-            Operand::Cleared(_) => 7,
-            Operand::Before(_) => 8,
-        }
-    }
-
-    fn number(self) -> u8
-        ensures { result ≡ operand_number self }
-    {
-        match self {
-            Operand::Input(n)
-            | Operand::Step(n)
-            | Operand::Output(n)
-            | Operand::Rise(n)
-            | Operand::Fall(n)
-            | Operand::Cleared(n)
-            | Operand::Before(n) => n,
-            Operand::Always => 0,
-        }
-    }
-
-    // The fields of an instruction that has the operand.
+    // The fields of an instruction that reads the operand.
     fn fields(self, operator: u8) -> Fields
         ensures value { result ≡ record { operator = operator; area = operand_area self; number = operand_number self } }
         ensures few { result.area < 16 }
     {
-        Fields { operator, area: self.area(), number: self.number() }
+        let (area, number) = match self {
+            Operand::Input(n) => (1, n),
+            Operand::Step(n) => (2, n),
+            Operand::Output(n) => (3, n),
+            Operand::Rise(n) => (4, n),
+            Operand::Fall(n) => (5, n),
+            Operand::Always => (6, 0),
+            Operand::Cleared(n) => (7, n),
+            Operand::Before(n) => (8, n),
+        };
+        Fields {
+            operator,
+            area,
+            number,
+        }
     }
 }
 
@@ -67,14 +50,38 @@ impl Instruction {
             Instruction::AndNot(x) => x.fields(4),
             Instruction::Or(x) => x.fields(5),
             Instruction::OrNot(x) => x.fields(6),
-            Instruction::AndOpen => Fields { operator: 7, area: 0, number: 0 },
-            Instruction::OrOpen => Fields { operator: 8, area: 0, number: 0 },
-            Instruction::Close => Fields { operator: 9, area: 0, number: 0 },
-            Instruction::Not => Fields { operator: 10, area: 0, number: 0 },
-            Instruction::Store(n) => Fields { operator: 11, area: 7, number: n },
+            Instruction::AndOpen => Fields {
+                operator: 7,
+                area: 0,
+                number: 0,
+            },
+            Instruction::OrOpen => Fields {
+                operator: 8,
+                area: 0,
+                number: 0,
+            },
+            Instruction::Close => Fields {
+                operator: 9,
+                area: 0,
+                number: 0,
+            },
+            Instruction::Not => Fields {
+                operator: 10,
+                area: 0,
+                number: 0,
+            },
+            Instruction::Store(n) => Fields {
+                operator: 11,
+                area: 7,
+                number: n,
+            },
             Instruction::Set(t) => Operand::from(t).fields(12),
             Instruction::Reset(t) => Operand::from(t).fields(13),
-            Instruction::Hold(n) => Fields { operator: 12, area: 9, number: n },
+            Instruction::Hold(n) => Fields {
+                operator: 12,
+                area: 9,
+                number: n,
+            },
         }
     }
 
