@@ -5,7 +5,7 @@ ghost use Rattle.words.specs.Words.{packed, operand_area, operand_number, operat
 
 use crate::instruction::{Instruction, Operand, Part, Target};
 
-// The fields of a word.
+// What a word is made of.
 #[derive(Clone, Copy, PartialEq, Eq, Debug)]
 struct Fields {
     operator: u8,
@@ -13,108 +13,25 @@ struct Fields {
     number: u8,
 }
 
-impl Operand {
-    // The fields of an instruction that reads the operand.
-    fn fields(self, operator: u8) -> Fields
-        ensures value { result ≡ record { operator = operator; area = operand_area self; number = operand_number self } }
-        ensures few { result.area < 16 }
+impl Fields {
+    fn new(operator: u8, area: u8, number: u8) -> Fields
+        ensures { result ≡ record { operator = operator; area = area; number = number } }
     {
-        let (area, number) = match self {
-            Operand::Input(n) => (1, n),
-            Operand::Step(n) => (2, n),
-            Operand::Output(n) => (3, n),
-            Operand::Rise(n) => (4, n),
-            Operand::Fall(n) => (5, n),
-            Operand::Always => (6, 0),
-            Operand::Cleared(n) => (7, n),
-            Operand::Before(n) => (8, n),
-        };
         Fields {
             operator,
             area,
             number,
         }
     }
-}
 
-impl Instruction {
-    fn fields(self) -> Fields
-        ensures value { result ≡ record { operator = operator_in self; area = area_in self; number = number_in self } }
-        ensures operators { result.operator < 16 }
-        ensures areas { result.area < 16 }
-    {
-        match self {
-            Instruction::Load(x) => x.fields(1),
-            Instruction::LoadNot(x) => x.fields(2),
-            Instruction::And(x) => x.fields(3),
-            Instruction::AndNot(x) => x.fields(4),
-            Instruction::Or(x) => x.fields(5),
-            Instruction::OrNot(x) => x.fields(6),
-            Instruction::AndOpen => Fields {
-                operator: 7,
-                area: 0,
-                number: 0,
-            },
-            Instruction::OrOpen => Fields {
-                operator: 8,
-                area: 0,
-                number: 0,
-            },
-            Instruction::Close => Fields {
-                operator: 9,
-                area: 0,
-                number: 0,
-            },
-            Instruction::Not => Fields {
-                operator: 10,
-                area: 0,
-                number: 0,
-            },
-            Instruction::Store(n) => Fields {
-                operator: 11,
-                area: 7,
-                number: n,
-            },
-            Instruction::Set(t) => Operand::from(t).fields(12),
-            Instruction::Reset(t) => Operand::from(t).fields(13),
-            Instruction::Hold(n) => Fields {
-                operator: 12,
-                area: 9,
-                number: n,
-            },
-        }
-    }
-
-    // Whether the instruction may stand in a part, with the number that it has.
-    fn is_admitted(self, part: Part) -> bool
-        ensures { result ≡ admitted part self }
-    {
-        let hold = matches!(part, Part::Hold);
-        let stands = match self {
-            Instruction::Store(_) | Instruction::Set(_) | Instruction::Reset(_) => !hold,
-            Instruction::Hold(_) => hold,
-            _ => true,
-        };
-        stands && self.fields().number < 64
-    }
-
-    // The word of an instruction with any number, also above 63.
-    pub(crate) fn word(self) -> u32
-        ensures { result ≡ word_of self }
-    {
-        self.fields().word()
-    }
-}
-
-impl Fields {
+    // The fields of a word, the lawful ones and the others.
     fn of(word: u32) -> Fields
-        ensures { result ≡ record { operator = operator_of word; area = area_of word; number = number_of word } }
+        ensures { result
+            ≡ record { operator = operator_of word; area = area_of word; number = number_of word } }
     {
-        Fields {
-            operator: (word >> 24) as u8,
-            area: ((word >> 20) % 16) as u8,
-            number: ((word >> 14) % 64) as u8,
-        }
+        let area = (word >> 20) % 16;
+        let number = (word >> 14) % 64;
+        Fields::new((word >> 24) as u8, area as u8, number as u8)
     }
 
     fn word(self) -> u32
@@ -125,6 +42,7 @@ impl Fields {
         ((self.operator as u32) << 24) + ((self.area as u32) << 20) + ((self.number as u32) << 14)
     }
 
+    // Whether the operator goes with the area in a part.
     fn may_pair(self, part: Part) -> bool
         ensures { result ≡ pairs part self.operator self.area }
     {
@@ -140,6 +58,7 @@ impl Fields {
         }
     }
 
+    // Whether the area has such a number.
     fn may_number(self) -> bool
         ensures { result ≡ numbers self.area self.number }
     {
@@ -193,6 +112,72 @@ impl Fields {
             _ if self.area == 9 => Instruction::Hold(self.number),
             _ => Instruction::Set(self.target()),
         }
+    }
+}
+
+impl Operand {
+    // The fields of an instruction that reads the operand.
+    fn fields(self, operator: u8) -> Fields
+        ensures value { result
+            ≡ record { operator = operator; area = operand_area self; number = operand_number self } }
+        ensures few { result.area < 16 }
+    {
+        let (area, number) = match self {
+            Operand::Input(n) => (1, n),
+            Operand::Step(n) => (2, n),
+            Operand::Output(n) => (3, n),
+            Operand::Rise(n) => (4, n),
+            Operand::Fall(n) => (5, n),
+            Operand::Always => (6, 0),
+            Operand::Cleared(n) => (7, n),
+            Operand::Before(n) => (8, n),
+        };
+        Fields::new(operator, area, number)
+    }
+}
+
+impl Instruction {
+    fn fields(self) -> Fields
+        ensures value { result ≡ record { operator = operator_in self; area = area_in self; number = number_in self } }
+        ensures operators { result.operator < 16 }
+        ensures areas { result.area < 16 }
+    {
+        match self {
+            Instruction::Load(x) => x.fields(1),
+            Instruction::LoadNot(x) => x.fields(2),
+            Instruction::And(x) => x.fields(3),
+            Instruction::AndNot(x) => x.fields(4),
+            Instruction::Or(x) => x.fields(5),
+            Instruction::OrNot(x) => x.fields(6),
+            Instruction::AndOpen => Fields::new(7, 0, 0),
+            Instruction::OrOpen => Fields::new(8, 0, 0),
+            Instruction::Close => Fields::new(9, 0, 0),
+            Instruction::Not => Fields::new(10, 0, 0),
+            Instruction::Store(n) => Fields::new(11, 7, n),
+            Instruction::Set(t) => Operand::from(t).fields(12),
+            Instruction::Reset(t) => Operand::from(t).fields(13),
+            Instruction::Hold(n) => Fields::new(12, 9, n),
+        }
+    }
+
+    // Whether the instruction may stand in a part, with the number that it has.
+    fn is_admitted(self, part: Part) -> bool
+        ensures { result ≡ admitted part self }
+    {
+        let hold = matches!(part, Part::Hold);
+        let stands = match self {
+            Instruction::Store(_) | Instruction::Set(_) | Instruction::Reset(_) => !hold,
+            Instruction::Hold(_) => hold,
+            _ => true,
+        };
+        stands && self.fields().number < 64
+    }
+
+    // The word of an instruction with any number, also above 63.
+    pub(crate) fn word(self) -> u32
+        ensures { result ≡ word_of self }
+    {
+        self.fields().word()
     }
 }
 
