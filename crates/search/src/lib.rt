@@ -1,42 +1,22 @@
 //! One search for the earliest equal entry, over every kind whose sameness is equality.
 #![tactic(auto)]
 
-ghost use Rattle.std.specs.Prelude.{◌≡◌, Bool, true, ◌==◌};
+ghost use Rattle.std.specs.Prelude.{◌≡◌, true};
 ghost use Rattle.search.specs.Earliest.{Earliest};
 ghost use Rattle.std.proofs.Common.{rules};
 
-/// A kind whose entries can be told apart: `same` is true of equal values, and of no others.
-pub trait Same {
-    ghost sameness: { Self → Self → Bool };
-
-    fn same(&self, other: &Self) -> bool
-        ensures { result ≡ sameness self.now other.now };
-
-    ghost equal: { (x y : Self) → sameness x y ≡ true → x ≡ y };
-
-    ghost itself: { (x : Self) → sameness x x ≡ true };
+/// A kind whose `==` is true of equal values, and of no others.
+pub trait Same: Eq {
+    ghost equal: { (x y : Self) → Self.eq x y ≡ true → x ≡ y };
 }
 
 /// The least index that holds an entry equal to `wanted`, or None where no entry is.
 pub fn earliest<T: Same>(items: &[T], wanted: &T) -> Option<usize>
     ensures { Earliest items.now wanted.now result }
 {
-    for (i, item) in items.iter().enumerate() {
-        if item.same(wanted) {
-            return Some(i);
-        }
-    }
-    None
+    items.iter().position(|item| item == wanted)
 }
 
 impl Same for u8 {
-    ghost sameness = { λ x y. (x == y) };
-
     ghost equal = { Prim.search rules };
-
-    ghost itself = { Prim.search rules };
-
-    fn same(&self, other: &u8) -> bool {
-        *self == *other
-    }
 }

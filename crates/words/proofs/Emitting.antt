@@ -9,7 +9,7 @@ use Rattle.words.specs.Emitted.{Kept, nothing, push, pushed, appended, joined, f
 
 -- ---- emitted in several parts
 pub pushed_words : (k : Kept) (xs : List Instruction) → pushed k xs ≡ appended k (map word_of xs)
-unfolding pushed appended
+unfolding pushed
 pushed_words k [] = refl
 pushed_words k (x ∷ xs) = pushed_words (push k (word_of x)) xs
 
@@ -41,7 +41,6 @@ push_first n us w =
     (cases_lt (length us) n)
 
 appended_first : (us vs : List ℕ) → appended (first_of us) vs ≡ first_of (us ++ vs)
-unfolding appended
 appended_first us [] = ap first_of (sym (append-nil us))
 appended_first us (v ∷ vs) = ap (λ k. appended k vs) (push_first 4096 us v) ∙ appended_first (us ++ (v ∷ [])) vs ∙ ap first_of (append_assoc us (v ∷ []) vs)
 

@@ -2,6 +2,7 @@
 use Rattle.std.proofs.Common.{◌≡◌, ℕ, ◌%◌, ◌<◌, true, ◌&&◌, ◌||◌, eqb, ltb, leb, Some, sym, refl, ap, ◌∙◌, subst, ⊎_elim, arith, lit<, below_none, below_more}
 use Rattle.std.proofs.lemmas.Bool.{and_parts, and_from, or_cases, not-true, not_from_false, eq-eqb, eqb-true, ltb-true, leb-true, lt-ltb, cond-true, cond-false, cases_Bool, false≢true}
 use Rattle.std.proofs.lemmas.Bool.Decides.{nat_tests}
+use Rattle.std.proofs.lemmas.Option.{cond_some}
 use Rattle.words.specs.declared.instruction.Part.{Part}
 use Rattle.words.specs.declared.instruction.Operand.{Operand}
 use Rattle.words.specs.declared.instruction.Operand.TheVariants.{Input, Step, Output, Rise, Fall, Always, Cleared, Before}
@@ -108,6 +109,9 @@ reads_back p i e =
     cond-true (lawful p (word_of i)) _ _ (and_from _ _ (eq-eqb _ _ f.low) (and_from _ _ paired numbered))
     ∙ ap (λ j. Some j) (same instruction_at f.operator f.area f.number ∙ back i)
 
+pub decodes_back : (p : Part) (i : Instruction) (w : ℕ) → encoded p i ≡ Some w → decoded p w ≡ Some i
+decodes_back p i w e = let was = cond_some (admitted p i) (word_of i) w e in ap (decoded p) (sym was.1) ∙ reads_back p i was.0
+
 -- ---- from a lawful word to its instruction and back
 abbrev OperandFits : ℕ → Type 0
 OperandFits a = (n : ℕ) → (leb 1 a && leb a 8) ≡ true → numbers a n ≡ true → (operand_area (operand_at a n) ≡ a) × (operand_number (operand_at a n) ≡ n)
@@ -198,3 +202,6 @@ written_back p w h =
     let f = each_fits (operator_of w) (below_fourteen p (operator_of w) (area_of w) rest.0) p (area_of w) (number_of w) rest.0 rest.1 in
     cond-true (admitted p (instruction_of w)) _ _ (and_from _ _ f.standing (lt-ltb _ _ (number_below w _ f.number)))
     ∙ ap (λ v. Some v) (same packed f.operator f.area f.number ∙ packs w (eqb-true _ _ low.0))
+
+pub encodes_back : (p : Part) (w : ℕ) (i : Instruction) → decoded p w ≡ Some i → encoded p i ≡ Some w
+encodes_back p w i e = let was = cond_some (lawful p w) (instruction_of w) i e in ap (encoded p) (sym was.1) ∙ written_back p w was.0

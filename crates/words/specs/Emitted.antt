@@ -1,5 +1,5 @@
 -- Words as they are emitted, one behind the other: the first 4,096 are kept. Assumes nothing.
-use Rattle.std.specs.Prelude.{ℕ, Bool, true, false, cond, ◌||◌, List, [], ◌∷◌, ◌++◌, length, take, vec_items, nat_lt}
+use Rattle.std.specs.Prelude.{ℕ, Bool, true, false, ◌||◌, List, [], ◌∷◌, ◌++◌, length, take, fold, nat_lt, if◌then◌else◌}
 use Rattle.words.specs.declared.instruction.Instruction.{Instruction}
 use Rattle.words.specs.declared.list.WordList.{WordList}
 use Rattle.words.specs.Words.{word_of}
@@ -13,13 +13,12 @@ abbrev pub nothing : Kept
 nothing = record { words = []; more = false }
 
 abbrev pub kept_in : WordList → Kept
-kept_in l = record { words = vec_items l.words; more = l.more }
+kept_in l = record { words = l.words; more = l.more }
 
 abbrev pub push : Kept → ℕ → Kept
 push k w =
-    cond (nat_lt (length k.words) 4096)
-    (record { words = k.words ++ (w ∷ []); more = k.more })
-    (record { words = k.words; more = true })
+    if nat_lt (length k.words) 4096 then record { words = k.words ++ w ∷ []; more = k.more }
+    else record { words = k.words; more = true }
 
 -- the instructions' words, behind those that were there
 unfoldable pub pushed : Kept → List Instruction → Kept
@@ -27,9 +26,8 @@ pushed k [] = k
 pushed k (i ∷ is) = pushed (push k (word_of i)) is
 
 -- the words, behind those that were there
-unfoldable pub appended : Kept → List ℕ → Kept
-appended k [] = k
-appended k (w ∷ ws) = appended (push k w) ws
+abbrev pub appended : Kept → List ℕ → Kept
+appended k ws = fold push k ws
 
 -- what a second list keeps, behind what the first does
 abbrev pub joined : Kept → Kept → Kept

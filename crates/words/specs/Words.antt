@@ -1,5 +1,5 @@
 -- Instruction words: operator times 2^24, plus area times 2^20, plus number times 2^14. Assumes nothing.
-use Rattle.std.specs.Prelude.{ℕ, ◌+◌, ◌*◌, ◌/◌, ◌%◌, Bool, true, false, cond, not, ◌&&◌, ◌||◌, Some, None, Option, ◌==◌, nat_le, nat_lt}
+use Rattle.std.specs.Prelude.{ℕ, ◌+◌, ◌*◌, ◌/◌, ◌%◌, Bool, true, false, not, ◌&&◌, ◌||◌, Some, None, Option, ◌==◌, nat_le, nat_lt, if◌then◌else◌}
 use Rattle.words.specs.declared.instruction.Part.{Part}
 use Rattle.words.specs.declared.instruction.Part.TheVariants as part
 use Rattle.words.specs.declared.instruction.Operand.{Operand}
@@ -40,6 +40,11 @@ target_area (target.Output n) = 3
 abbrev pub target_number : Target → ℕ
 target_number (target.Step n) = n
 target_number (target.Output n) = n
+
+-- the operand that reads what the target sets and resets
+abbrev pub read_of : Target → Operand
+read_of (target.Step n) = Step n
+read_of (target.Output n) = Output n
 
 abbrev pub operator_in : Instruction → ℕ
 operator_in (Load x) = 1
@@ -119,7 +124,7 @@ abbrev pub admitted : Part → Instruction → Bool
 admitted p i = stands p i && nat_lt (number_in i) 64
 
 abbrev pub encoded : Part → Instruction → Option ℕ
-encoded p i = cond (admitted p i) (Some (word_of i)) None
+encoded p i = if admitted p i then Some (word_of i) else None
 
 -- ---- the lawful words of a part, by their fields
 abbrev pub operator_of : ℕ → ℕ
@@ -134,15 +139,16 @@ number_of w = w / 16384 % 64
 -- which operator goes with which area, in which part
 abbrev pub pairs : Part → ℕ → ℕ → Bool
 pairs p o a =
-    cond (nat_le 1 o && nat_le o 6) (nat_le 1 a && nat_le a 8)
-    (cond (nat_le 7 o && nat_le o 10) (a == 0)
-    (cond (o == 11) (not (is_hold p) && a == 7)
-    (cond (o == 12) (cond (is_hold p) (a == 9) (a == 2 || a == 3))
-    (cond (o == 13) (not (is_hold p) && (a == 2 || a == 3)) false))))
+    if nat_le 1 o && nat_le o 6 then nat_le 1 a && nat_le a 8
+    else if nat_le 7 o && nat_le o 10 then a == 0
+    else if o == 11 then not (is_hold p) && a == 7
+    else if o == 12 then (if is_hold p then a == 9 else a == 2 || a == 3)
+    else if o == 13 then not (is_hold p) && (a == 2 || a == 3)
+    else false
 
 -- with no area, and in the area that is always on, the number is 0
 abbrev pub numbers : ℕ → ℕ → Bool
-numbers a n = cond (a == 0 || a == 6) (n == 0) true
+numbers a n = if a == 0 || a == 6 then n == 0 else true
 
 -- the 14 bits below the number are 0
 abbrev pub lawful : Part → ℕ → Bool
@@ -151,23 +157,37 @@ lawful p w = w % 16384 == 0 && (pairs p (operator_of w) (area_of w) && numbers (
 -- ---- the instruction of a lawful word
 abbrev pub operand_at : ℕ → ℕ → Operand
 operand_at a n =
-    cond (a == 1) (Input n) (cond (a == 2) (Step n) (cond (a == 3) (Output n) (cond (a == 4) (Rise n)
-    (cond (a == 5) (Fall n) (cond (a == 6) Always (cond (a == 7) (Cleared n) (Before n)))))))
+    if a == 1 then Input n
+    else if a == 2 then Step n
+    else if a == 3 then Output n
+    else if a == 4 then Rise n
+    else if a == 5 then Fall n
+    else if a == 6 then Always
+    else if a == 7 then Cleared n
+    else Before n
 
 abbrev pub target_at : ℕ → ℕ → Target
-target_at a n = cond (a == 2) (target.Step n) (target.Output n)
+target_at a n = if a == 2 then target.Step n else target.Output n
 
 abbrev pub instruction_at : ℕ → ℕ → ℕ → Instruction
 instruction_at o a n =
-    cond (o == 1) (Load (operand_at a n)) (cond (o == 2) (LoadNot (operand_at a n))
-    (cond (o == 3) (And (operand_at a n)) (cond (o == 4) (AndNot (operand_at a n))
-    (cond (o == 5) (Or (operand_at a n)) (cond (o == 6) (OrNot (operand_at a n))
-    (cond (o == 7) AndOpen (cond (o == 8) OrOpen (cond (o == 9) Close (cond (o == 10) Not
-    (cond (o == 11) (Store n) (cond (o == 13) (Reset (target_at a n))
-    (cond (a == 9) (Hold n) (Set (target_at a n))))))))))))))
+    if o == 1 then Load (operand_at a n)
+    else if o == 2 then LoadNot (operand_at a n)
+    else if o == 3 then And (operand_at a n)
+    else if o == 4 then AndNot (operand_at a n)
+    else if o == 5 then Or (operand_at a n)
+    else if o == 6 then OrNot (operand_at a n)
+    else if o == 7 then AndOpen
+    else if o == 8 then OrOpen
+    else if o == 9 then Close
+    else if o == 10 then Not
+    else if o == 11 then Store n
+    else if o == 13 then Reset (target_at a n)
+    else if a == 9 then Hold n
+    else Set (target_at a n)
 
 abbrev pub instruction_of : ℕ → Instruction
 instruction_of w = instruction_at (operator_of w) (area_of w) (number_of w)
 
 abbrev pub decoded : Part → ℕ → Option Instruction
-decoded p w = cond (lawful p w) (Some (instruction_of w)) None
+decoded p w = if lawful p w then Some (instruction_of w) else None

@@ -4,6 +4,7 @@ ghost use Rattle.words.specs.Emitted.{kept_in, push as put, pushed, joined, noth
 
 use crate::instruction::Instruction;
 use crate::list::WordList;
+use room::Reserved;
 use std::alloc::{AllocError, Global};
 
 impl WordList {
@@ -11,9 +12,8 @@ impl WordList {
     pub fn new(heap: Global) -> Result<WordList, AllocError>
         ensures { IfOk result (λ l. kept_in l ≡ nothing) }
     {
-        let words = Vec::with_capacity(heap, 4096)?;
-        let more = false;
-        Ok(WordList { words, more })
+        let words = Reserved::new(heap)?;
+        Ok(WordList { words, more: false })
     }
 
     /// Empties the list.
@@ -28,16 +28,14 @@ impl WordList {
     pub fn push(&mut self, instruction: Instruction)
         ensures { kept_in self.new ≡ pushed (kept_in self.old) (instruction ∷ []) }
     {
-        self.put(instruction.any_word());
+        self.put(instruction.word());
     }
 
     // Puts a word behind the others, or notes that there was no room for it.
     fn put(&mut self, word: u32)
         ensures { kept_in self.new ≡ put (kept_in self.old) word }
     {
-        if self.words.len() < 4096 {
-            self.words.push_reserved(word);
-        } else {
+        if self.words.push(word).is_err() {
             self.more = true;
         }
     }
@@ -49,16 +47,14 @@ impl WordList {
         for word in list.words() {
             self.put(*word);
         }
-        if list.more {
-            self.more = true;
-        }
+        self.more |= list.more;
     }
 
     /// The words.
     pub fn words(&self) -> &[u32]
         ensures { result.now ≡ (kept_in self.now).words }
     {
-        &self.words
+        self.words.as_slice()
     }
 
     /// Whether there were more.

@@ -1,4 +1,6 @@
 //! The instructions of a program.
+ghost use Rattle.std.specs.Prelude.{◌≡◌};
+ghost use Rattle.words.specs.Words.{read_of};
 
 /// The parts of a program.
 #[derive(Clone, Copy, PartialEq, Eq, Debug)]
@@ -55,4 +57,15 @@ pub enum Instruction {
     Reset(Target),
     /// Sets a held output.
     Hold(u8),
+}
+
+impl From<Target> for Operand {
+    ghost from_gives = { λ t r. r ≡ read_of t };
+
+    fn from(target: Target) -> Operand {
+        match target {
+            Target::Step(n) => Operand::Step(n),
+            Target::Output(n) => Operand::Output(n),
+        }
+    }
 }
