@@ -1,8 +1,10 @@
 -- A run is the bytes before the first that does not go on with it. Assumes nothing.
 use Rattle.std.proofs.Common.{◌≡◌, ℕ, suc, ◌+◌, ◌<◌, Bool, true, false, cond, List, [], ◌∷◌, ◌++◌, length, take, refl, ap, ◌∙◌, arith}
 use lib.Seq.{take-append_seam}
+use Rattle.std.specs.Char.{is_ascii_digit}
 use Rattle.std.specs.List.{prefix_len}
 use Rattle.std.proofs.lemmas.Bool.{cond-true, cond-false}
+use Rattle.text.specs.Runs.{digits}
 
 module _ (p : ℕ → Bool) where
   -- a run of its own and what stands behind it
@@ -56,3 +58,7 @@ module _ (p : ℕ → Bool) where
   -- the run, taken from the bytes by its length
   pub taken : (bs : List ℕ) (s : Split p bs) → take (prefix_len p bs) bs ≡ s.run
   taken bs s = ap (λ n. take n bs) s.long ∙ ap (λ l. take (length s.run) l) s.cut ∙ take-append_seam s.run s.rest
+
+-- the digits that the bytes begin with are digits
+pub digits_taken : (bs : List ℕ) (n : ℕ) → n ≡ digits bs → digits (take n bs) ≡ length (take n bs)
+digits_taken bs n e = let s = split is_ascii_digit bs in rw (e, taken is_ascii_digit bs s) s.all
