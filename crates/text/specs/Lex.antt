@@ -43,6 +43,10 @@ sign_of b =
 abbrev pub value_of : ℕ → List ℕ → ℕ
 value_of n bs = worth (take n bs)
 
+-- the value of the digits that the bytes begin with, and how many they are, at most four
+abbrev pub numeral : List ℕ → Option (ℕ × ℕ)
+numeral bs = if nat_le (digits bs) 4 then Some (value_of (digits bs) bs, digits bs) else None
+
 -- a token of n bytes at place p, whose digits these bytes begin with
 abbrev pub few : (ℕ → TokenKind) → ℕ → ℕ → List ℕ → Piece
 few kind n p bs = if nat_le (digits bs) 4 then Ok (Some (kind (value_of (digits bs) bs), n)) else Err (TooManyDigits p)

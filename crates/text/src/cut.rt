@@ -1,7 +1,7 @@
 //! Cutting a text into tokens, see docs/chart-text.md.
 ghost use Rattle.std.specs.Prelude.{◌≡◌, ◌+◌, ◌*◌, ◌^◌, ◌<◌, ◌≤◌, [], length, drop, IfOk};
-ghost use Rattle.text.specs.Lex.{letter_of, sign_of, number, keyword, operand, piece, Within};
-ghost use Rattle.text.specs.Runs.{digits, letters, worth};
+ghost use Rattle.text.specs.Lex.{letter_of, sign_of, numeral, number, keyword, operand, piece, Within};
+ghost use Rattle.text.specs.Runs.{digits, letters};
 ghost use Rattle.text.specs.Spelled.{Spelled, Alone, Rising, end_of};
 ghost use Rattle.text.specs.Lex.{list_in, lex, tokens_of, answer};
 
@@ -57,17 +57,19 @@ fn letter_run(bytes: &[u8]) -> usize
     bytes.iter().take_while(|b| b.is_ascii_lowercase()).count()
 }
 
-// The value of at most four digits.
-fn value(bytes: &[u8]) -> u16
-    requires few { length bytes.now ≤ 4 }
-    requires all { digits bytes.now ≡ length bytes.now }
-    ensures { result ≡ worth bytes.now }
+// The value of the digits that the bytes begin with, and how many they are, if they are not too many.
+fn numeral(bytes: &[u8]) -> Option<(u16, usize)>
+    ensures { result ≡ numeral bytes.now }
 {
-    let mut v: u16 = 0;
-    for b in bytes {
-        v = v * 10 + u16::from(*b - b'0');
+    let n = digit_run(bytes);
+    if n > MOST {
+        return None;
     }
-    v
+    let mut value: u16 = 0;
+    for b in &bytes[..n] {
+        value = value * 10 + u16::from(*b - b'0');
+    }
+    Some((value, n))
 }
 
 // The bytes that are left of a text, and the place where they begin.
@@ -79,17 +81,13 @@ struct Rest<'a> {
 
 impl Rest<'_> {
     // The number that the bytes begin with.
-    #[tactic(auto, using(crate::proofs::RunLaws::digits_taken))]
     fn number(&self) -> Result<Option<(TokenKind, usize)>, TextFault>
         requires { 0 < digits self.now.bytes.now }
         ensures is { result ≡ number self.now.place self.now.bytes.now }
         ensures within { Within result (length self.now.bytes.now) }
     {
-        let n = digit_run(self.bytes);
-        if n > MOST {
-            return Err(TextFault::TooManyDigits(self.place));
-        }
-        Ok(Some((TokenKind::Digits(value(&self.bytes[..n])), n)))
+        let (value, n) = numeral(self.bytes).ok_or(TextFault::TooManyDigits(self.place))?;
+        Ok(Some((TokenKind::Digits(value), n)))
     }
 
     // The word that the bytes begin with.
@@ -104,21 +102,16 @@ impl Rest<'_> {
     }
 
     // The operand of this letter, which is the first of the bytes.
-    #[tactic(auto, using(crate::proofs::RunLaws::digits_taken))]
     fn operand(&self, letter: Letter) -> Result<Option<(TokenKind, usize)>, TextFault>
         requires { 0 < length self.now.bytes.now }
         ensures is { result ≡ operand letter self.now.place (drop 1 self.now.bytes.now) }
         ensures within { Within result (length self.now.bytes.now) }
     {
-        let digits = &self.bytes[1..];
-        let n = digit_run(digits);
-        if n == 0 {
-            return Err(TextFault::NoToken(self.place));
+        let too_many = TextFault::TooManyDigits(self.place);
+        match numeral(&self.bytes[1..]).ok_or(too_many)? {
+            (_, 0) => Err(TextFault::NoToken(self.place)),
+            (value, n) => Ok(Some((TokenKind::Operand(letter, value), n + 1))),
         }
-        if n > MOST {
-            return Err(TextFault::TooManyDigits(self.place));
-        }
-        Ok(Some((TokenKind::Operand(letter, value(&digits[..n])), n + 1)))
     }
 
     // What the bytes begin with: a blank, or a token with its length.

@@ -2,8 +2,8 @@
 use crate::token::Token;
 use room::Reserved;
 
-/// The bytes of the longest text.
-pub const LONGEST: usize = 32768;
+// The bytes of the longest text.
+pub(crate) const LONGEST: usize = 32768;
 
 /// A list of tokens with room for those of any text.
 #[derive(Drop)]
