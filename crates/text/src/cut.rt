@@ -121,20 +121,15 @@ impl Rest<'_> {
     {
         let fault = TextFault::NoToken(self.place);
         let (first, _) = self.bytes.split_first().ok_or(fault)?;
-        let b = *first;
-        if b == b' ' {
-            return Ok(None);
+        match *first {
+            b' ' => Ok(None),
+            b'0'..=b'9' => self.number(),
+            b'a'..=b'z' => self.keyword(),
+            b => match sign(b) {
+                Some(kind) => Ok(Some((kind, 1))),
+                None => self.operand(letter(b).ok_or(fault)?),
+            },
         }
-        if b.is_ascii_digit() {
-            return self.number();
-        }
-        if b.is_ascii_lowercase() {
-            return self.keyword();
-        }
-        if let Some(kind) = sign(b) {
-            return Ok(Some((kind, 1)));
-        }
-        self.operand(letter(b).ok_or(fault)?)
     }
 
     // Moves on, past `n` bytes.
@@ -156,12 +151,16 @@ fn fill(list: &mut Reserved<Token, LONGEST>, text: &[u8]) -> Result<(), TextFaul
     ensures list { list.new ≡ (lex text.now 0 0).tokens }
     ensures stop { result ≡ answer (lex text.now 0 0).stop }
 {
-    let mut rest = Rest { bytes: text, place: 0 };
+    let mut rest = Rest {
+        bytes: text,
+        place: 0,
+    };
     while !rest.bytes.is_empty() {
         match rest.piece()? {
             None => rest.skip(1),
             Some((kind, len)) => {
-                list.push(Token { kind, place: rest.place }).unwrap();
+                let place = rest.place;
+                list.push(Token { kind, place }).unwrap();
                 rest.skip(len);
             }
         }
@@ -174,7 +173,9 @@ impl Tokens {
     pub fn new(heap: Global) -> Result<Tokens, AllocError>
         ensures { IfOk result (λ t. list_in t ≡ []) }
     {
-        Ok(Tokens { list: Reserved::new(heap)? })
+        Ok(Tokens {
+            list: Reserved::new(heap)?,
+        })
     }
 
     /// Cuts the text into its tokens. At a fault the tokens before it are in the list.

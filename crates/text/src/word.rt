@@ -40,5 +40,8 @@ impl Word {
 pub fn word_of(letters: &[u8]) -> Option<Word>
     ensures { result ≡ word_of letters.now }
 {
-    WORDS.iter().copied().find(|word| letters == word.spelling())
+    WORDS
+        .iter()
+        .copied()
+        .find(|word| letters == word.spelling())
 }

@@ -8,5 +8,5 @@ invariant-loop-b l = record {
   none : l.b-index ≤ 0 → l.value < 1;
   one : l.b-index ≤ 1 → l.value < 10;
   two : l.b-index ≤ 2 → l.value < 100;
-  three : l.b-index ≤ 3 → l.value < 1000
+  three : l.b-index ≤ 3 → l.value < 1000;
 }
