@@ -15,6 +15,7 @@ use std::alloc::{AllocError, Global};
 // The digits of the longest number.
 const MOST: usize = 4;
 
+// The letter of an operand. An Option says all that there is to say of a byte.
 fn letter(b: u8) -> Option<Letter>
     ensures { result ≡ letter_of b }
 {
@@ -26,6 +27,7 @@ fn letter(b: u8) -> Option<Letter>
     }
 }
 
+// The token that is a byte of its own.
 fn sign(b: u8) -> Option<TokenKind>
     ensures { result ≡ sign_of b }
 {
@@ -43,7 +45,8 @@ fn sign(b: u8) -> Option<TokenKind>
     }
 }
 
-// How many digits the bytes begin with.
+// How many digits the bytes begin with. This run and the next are functions of their own: the count of a chain is known
+// only to the clause that mirrors it.
 fn digit_run(bytes: &[u8]) -> usize
     ensures { result ≡ digits bytes.now }
 {
