@@ -1,8 +1,13 @@
 -- A run is the bytes before the first that does not go on with it. Assumes nothing.
-use Rattle.std.proofs.Common.{◌≡◌, ℕ, suc, ◌+◌, ◌<◌, Bool, true, false, cond, List, [], ◌∷◌, ◌++◌, length, take, refl, ap, ◌∙◌, arith}
+use Rattle.std.proofs.Common.{◌≡◌, ℕ, suc, ◌+◌, ◌-◌, ◌*◌, ◌<◌, ◌≤◌, Bool, true, false, cond, List, [], ◌∷◌, ◌++◌, length, get_or, take, refl, ap, ◌∙◌, arith}
 use lib.Seq.{take-append_seam}
+use Rattle.std.specs.Char.{is_ascii_digit}
 use Rattle.std.specs.List.{prefix_len}
 use Rattle.std.proofs.lemmas.Bool.{cond-true, cond-false}
+use Rattle.std.proofs.lemmas.Bool.Decides.{nat_tests}
+use Rattle.std.proofs.lemmas.List.Sums.{prefix_len-le-length, prefix_len_passes, fold_more}
+use Rattle.text.specs.Lex.{value_of}
+use Rattle.text.specs.Runs.{digits}
 
 module _ (p : ℕ → Bool) where
   -- a run of its own and what stands behind it
@@ -56,3 +61,14 @@ module _ (p : ℕ → Bool) where
   -- the run, taken from the bytes by its length
   pub taken : (bs : List ℕ) (s : Split p bs) → take (prefix_len p bs) bs ≡ s.run
   taken bs s = ap (λ n. take n bs) s.long ∙ ap (λ l. take (length s.run) l) s.cut ∙ take-append_seam s.run s.rest
+
+-- each of the digits that the bytes begin with is one
+pub digit_at : (bs : List ℕ) (i : ℕ) → i < digits bs → (48 ≤ get_or bs i 0) × (get_or bs i 0 ≤ 57)
+digit_at bs i h = ranged (get_or bs i 0) (prefix_len_passes is_ascii_digit bs i 0 h)
+  where
+    ranged : (b : ℕ) → is_ascii_digit b ≡ true → (48 ≤ b) × (b ≤ 57)
+    ranged b e = (grind (arith, nat_tests), grind (arith, nat_tests))
+
+-- the value of one digit more
+pub one_digit_more : (bs : List ℕ) (i : ℕ) → i < digits bs → value_of (i + 1) bs ≡ value_of i bs * 10 + (get_or bs i 0 - 48)
+one_digit_more bs i h = fold_more (λ v b. v * 10 + (b - 48)) 0 bs i 0 (omega (arith, prefix_len-le-length is_ascii_digit bs))

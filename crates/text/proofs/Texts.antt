@@ -1,16 +1,14 @@
 -- A text is spelled by its tokens, and by no others. Assumes nothing.
-use Rattle.std.proofs.Common.{◌≡◌, ℕ, zero, suc, ◌+◌, ◌<◌, ◌≤◌, leb, List, [], ◌∷◌, ◌++◌, length, Some, Ok, Err, Result, sym, refl, ap, ◌∙◌, subst, ⊎_elim, arith, length-append}
+use Rattle.std.proofs.Common.{◌≡◌, ℕ, zero, suc, ◌+◌, ◌<◌, ◌≤◌, leb, List, [], ◌∷◌, ◌++◌, length, Some, None, Ok, Err, Result, sym, refl, ap, ◌∙◌, subst, ⊎_elim, arith, length-append}
 use lib.Seq.{drop-append_seam}
 use Rattle.std.specs.List.{AllByRecursion}
 use Rattle.std.proofs.lemmas.Bool.{cond-true, cond-false, le-leb, lt-leb, cases_lt}
 use Rattle.faults.specs.declared.TextFault.{TextFault}
 use Rattle.faults.specs.declared.TextFault.TheVariants.{TooLong, NoToken, TooManyDigits, Unexpected, EighthBracket, NumberTooLarge}
-use Rattle.text.specs.declared.piece.Piece.{Piece}
-use Rattle.text.specs.declared.piece.Piece.TheVariants.{Gap, Whole, Wrong}
 use Rattle.text.specs.declared.token.Token.{Token}
 use Rattle.text.specs.declared.token.TokenKind.{TokenKind}
 use Rattle.text.specs.declared.token.TokenKind.TheVariants.{Keyword, Digits, Operand, Comma, Dot, Plus, Bang, Open, Close, Slash, Backslash, LineEnd}
-use Rattle.text.specs.Lex.{Lexed, piece, follow, after, lex, tokens_of, answer}
+use Rattle.text.specs.Lex.{Piece, Lexed, piece, follow, after, lex, tokens_of, answer}
 use Rattle.text.specs.Spelled.{Written, Begins, Refused, Stops, Apart, Spells, Spelled, Alone}
 use Rattle.text.proofs.Lexing.{skip_on}
 use Rattle.text.proofs.Pieces.{Told, told, whole, many}
@@ -36,11 +34,11 @@ written_some LineEnd s e = omega (arith, ap length e)
 cut_at : (p b : ℕ) (bs : List ℕ) (q : Piece) → piece p (b ∷ bs) ≡ q → lex (b ∷ bs) 0 p ≡ follow q p (λ n. lex bs n (p + 1))
 cut_at p b bs q e = ap (λ x. follow x p (λ n. lex bs n (p + 1))) e
 
-past_bytes : (p : ℕ) (k : TokenKind) (s rest : List ℕ) → 0 < length s → piece p (s ++ rest) ≡ Whole k (length s) → lex (s ++ rest) 0 p ≡ after (record { kind = k; place = p } ∷ []) (lex rest 0 (p + length s))
+past_bytes : (p : ℕ) (k : TokenKind) (s rest : List ℕ) → 0 < length s → piece p (s ++ rest) ≡ Ok (Some (k, length s)) → lex (s ++ rest) 0 p ≡ after (record { kind = k; place = p } ∷ []) (lex rest 0 (p + length s))
 past_bytes p k [] rest some e = absurd (omega arith)
 past_bytes p k (c ∷ s) rest some e =
     let fits : length s ≤ length (s ++ rest) = omega (arith, length-append s rest) in
-    cut_at p c (s ++ rest) (Whole k (suc (length s))) e ∙
+    cut_at p c (s ++ rest) (Ok (Some (k, suc (length s)))) e ∙
     ap (λ n. after (record { kind = k; place = p } ∷ []) (lex (s ++ rest) n (p + 1))) (omega arith) ∙
     ap (λ l. after (record { kind = k; place = p } ∷ []) l) (skip_on (s ++ rest) (length s) (p + 1) fits) ∙
     ap (λ l. after (record { kind = k; place = p } ∷ []) (lex l 0 (p + 1 + length s))) (drop-append_seam s rest) ∙
@@ -61,13 +59,13 @@ past_blanks p (b ∷ blanks) rest h =
     ap (λ q. lex rest 0 q) (omega arith)
 
 -- a fault that is cut off at p is one of the bytes there
-refused_by : (p b : ℕ) (bs : List ℕ) (f : TextFault) → piece p (b ∷ bs) ≡ Wrong f → Told p (b ∷ bs) (Wrong f) → Refused p (b ∷ bs) f
+refused_by : (p b : ℕ) (bs : List ℕ) (f : TextFault) → piece p (b ∷ bs) ≡ Err f → Told p (b ∷ bs) (Err f) → Refused p (b ∷ bs) f
 refused_by p b bs TooLong e t = t
 refused_by p b bs (NoToken q) e t = (
   t,
   record {
     some = λ h. absurd (omega (arith, ap length h));
-    no_blank = λ rest h. let g : piece p (b ∷ bs) ≡ Gap = ap (λ x. piece p x) h in let z : ◌≡◌ {A = ℕ} 0 1 = cc in absurd (omega arith);
+    no_blank = λ rest h. let g : piece p (b ∷ bs) ≡ Ok None = ap (λ x. piece p x) h in let z : ◌≡◌ {A = ℕ} 0 1 = cc in absurd (omega arith);
     no_token = λ k h. let g = whole p k (b ∷ bs) h in let z : ◌≡◌ {A = ℕ} 0 1 = cc in absurd (omega arith);
     few = λ h. let g = many p (b ∷ bs) h in let z : ◌≡◌ {A = ℕ} 0 1 = cc in absurd (omega arith);
   },
@@ -78,24 +76,24 @@ refused_by p b bs (EighthBracket q) e t = t
 refused_by p b bs (NumberTooLarge q) e t = t
 
 -- bytes that are refused at p are cut off as that fault
-refused_piece : (p : ℕ) (bs : List ℕ) (f : TextFault) → Refused p bs f → piece p bs ≡ Wrong f
+refused_piece : (p : ℕ) (bs : List ℕ) (f : TextFault) → Refused p bs f → piece p bs ≡ Err f
 refused_piece p bs TooLong h = absurd h
 refused_piece p [] (NoToken q) h = absurd (h.1.some refl)
 refused_piece p (b ∷ bs) (NoToken q) h = by (piece p (b ∷ bs)) (told p b bs)
   where
-    wrong : (f : TextFault) → Told p (b ∷ bs) (Wrong f) → Wrong f ≡ Wrong (NoToken q)
+    wrong : (f : TextFault) → Told p (b ∷ bs) (Err f) → ◌≡◌ {A = Piece} (Err f) (Err (NoToken q))
     wrong TooLong t = absurd t
-    wrong (NoToken o) t = ap (λ x. Wrong (NoToken x)) (t ∙ sym h.0)
+    wrong (NoToken o) t = ap (λ x. Err (NoToken x)) (t ∙ sym h.0)
     wrong (TooManyDigits o) t = absurd (h.1.few t.1)
     wrong (Unexpected o) t = absurd t
     wrong (EighthBracket o) t = absurd t
     wrong (NumberTooLarge o) t = absurd t
 
-    by : (x : Piece) → Told p (b ∷ bs) x → x ≡ Wrong (NoToken q)
-    by Gap t = absurd (h.1.no_blank t.0 t.1)
-    by (Whole k n) t = absurd (h.1.no_token k t.0)
-    by (Wrong f) t = wrong f t
-refused_piece p bs (TooManyDigits q) h = many p bs h.1 ∙ ap (λ x. Wrong (TooManyDigits x)) (sym h.0)
+    by : (x : Piece) → Told p (b ∷ bs) x → x ≡ Err (NoToken q)
+    by (Ok None) t = absurd (h.1.no_blank t.0 t.1)
+    by (Ok (Some (k, n))) t = absurd (h.1.no_token k t.0)
+    by (Err f) t = wrong f t
+refused_piece p bs (TooManyDigits q) h = many p bs h.1 ∙ ap (λ x. Err (TooManyDigits x)) (sym h.0)
 refused_piece p bs (Unexpected q) h = absurd h
 refused_piece p bs (EighthBracket q) h = absurd h
 refused_piece p bs (NumberTooLarge q) h = absurd h
@@ -120,17 +118,17 @@ sound zero p (b ∷ bs) h = absurd (omega arith)
 sound (suc n) p (b ∷ bs) h = by (piece p (b ∷ bs)) refl (told p b bs) (sound n)
   where
     by : (q : Piece) → piece p (b ∷ bs) ≡ q → Told p (b ∷ bs) q → ((o : ℕ) (cs : List ℕ) → length cs ≤ n → CutAs o cs (lex cs 0 o)) → CutAs p (b ∷ bs) (lex (b ∷ bs) 0 p)
-    by Gap e t more =
+    by (Ok None) e t more =
         let blank : b ≡ 32 = cc t.1 in
-        subst (CutAs p (b ∷ bs)) (sym (cut_at p b bs Gap e)) (one_blank p b bs _ _ blank (more (p + 1) bs (omega arith)))
-    by (Whole k m) e t more =
+        subst (CutAs p (b ∷ bs)) (sym (cut_at p b bs (Ok None) e)) (one_blank p b bs _ _ blank (more (p + 1) bs (omega arith)))
+    by (Ok (Some (k, m))) e t more =
         let token = t.0 in
         let long = written_some k token.token token.written in
         let parts = length-append token.token token.rest in
         let fits : length token.rest ≤ n = omega (arith, ap length token.cut, parts, long) in
         subst (CutAs p (b ∷ bs)) (sym (past_token p k (b ∷ bs) token)) (at_once (b ∷ bs), omega arith, token, more (p + length token.token) token.rest fits)
-    by (Wrong f) e t more =
-        subst (CutAs p (b ∷ bs)) (sym (cut_at p b bs (Wrong f) e)) (at_once (b ∷ bs), subst (λ (q : ℕ). Refused q (b ∷ bs) f) (omega arith) (refused_by p b bs f e t))
+    by (Err f) e t more =
+        subst (CutAs p (b ∷ bs)) (sym (cut_at p b bs (Err f) e)) (at_once (b ∷ bs), subst (λ (q : ℕ). Refused q (b ∷ bs) f) (omega arith) (refused_by p b bs f e t))
 
 -- the tokens that spell the bytes are cut from them
 abbrev Same : Lexed → List Token → Result (Unit {0}) TextFault → Type 0
@@ -147,7 +145,7 @@ stopped p [] (Err f) h = absurd (wrong_end f h)
     wrong_end (Unexpected q) h = h
     wrong_end (EighthBracket q) h = h
     wrong_end (NumberTooLarge q) h = h
-stopped p (b ∷ bs) (Err f) h = subst (λ (l : Lexed). Same l [] (Err f)) (sym (cut_at p b bs (Wrong f) (refused_piece p (b ∷ bs) f h))) (refl, refl)
+stopped p (b ∷ bs) (Err f) h = subst (λ (l : Lexed). Same l [] (Err f)) (sym (cut_at p b bs (Err f) (refused_piece p (b ∷ bs) f h))) (refl, refl)
 
 past_apart : (p : ℕ) (bs : List ℕ) (a : Apart bs) → lex bs 0 p ≡ lex a.rest 0 (p + length a.blanks)
 past_apart p bs a = ap (λ l. lex l 0 p) a.cut ∙ past_blanks p a.blanks a.rest a.blank

@@ -1,10 +1,8 @@
 -- What a text is cut into. Assumes nothing.
-use Rattle.std.specs.Prelude.{ℕ, zero, suc, ◌+◌, ◌-◌, ◌<◌, ◌≤◌, cond, List, [], ◌∷◌, ◌++◌, length, take, Some, None, Ok, Err, vec_items, Option, Result, ◌==◌, nat_le}
+use Rattle.std.specs.Prelude.{ℕ, zero, suc, ◌+◌, ◌-◌, ◌<◌, ◌≤◌, if◌then◌else◌, List, [], ◌∷◌, ◌++◌, length, take, Some, None, Ok, Err, Option, Result, ◌==◌, nat_le}
 use Rattle.std.specs.Char.{is_ascii_digit, is_ascii_lowercase}
 use Rattle.faults.specs.declared.TextFault.{TextFault}
 use Rattle.faults.specs.declared.TextFault.TheVariants.{TooLong, NoToken, TooManyDigits}
-use Rattle.text.specs.declared.piece.Piece.{Piece}
-use Rattle.text.specs.declared.piece.Piece.TheVariants.{Gap, Whole, Wrong}
 use Rattle.text.specs.declared.token.Letter.{Letter}
 use Rattle.text.specs.declared.token.Letter.TheVariants.{I, Q, X}
 use Rattle.text.specs.declared.token.Token.{Token}
@@ -15,30 +13,43 @@ use Rattle.text.specs.declared.tokens.Tokens.{Tokens}
 use Rattle.text.specs.Spelling.{word_of}
 use Rattle.text.specs.Runs.{digits, letters, worth}
 
+-- what a text goes on with: a blank is Ok None, a token of n bytes is Ok (Some (kind, n)), and anything else is a fault
+abbrev pub Piece : Type 0
+Piece = Result (Option (TokenKind × ℕ)) TextFault
+
 -- the letters I, Q and X
 abbrev pub letter_of : ℕ → Option Letter
-letter_of b = cond (b == 73) (Some I) (cond (b == 81) (Some Q) (cond (b == 88) (Some X) None))
+letter_of b =
+    if b == 73 then Some I
+    else (if b == 81 then Some Q
+    else (if b == 88 then Some X
+    else None))
 
 -- , . + ! ( ) / \ and the line end
 abbrev pub sign_of : ℕ → Option TokenKind
 sign_of b =
-    cond (b == 10) (Some LineEnd)
-    (cond (b == 44) (Some Comma)
-    (cond (b == 46) (Some Dot)
-    (cond (b == 43) (Some Plus)
-    (cond (b == 33) (Some Bang)
-    (cond (b == 40) (Some Open)
-    (cond (b == 41) (Some Close)
-    (cond (b == 47) (Some Slash)
-    (cond (b == 92) (Some Backslash) None))))))))
+    if b == 10 then Some LineEnd
+    else (if b == 44 then Some Comma
+    else (if b == 46 then Some Dot
+    else (if b == 43 then Some Plus
+    else (if b == 33 then Some Bang
+    else (if b == 40 then Some Open
+    else (if b == 41 then Some Close
+    else (if b == 47 then Some Slash
+    else (if b == 92 then Some Backslash
+    else None))))))))
 
 -- the value of the first n bytes as digits
 abbrev pub value_of : ℕ → List ℕ → ℕ
 value_of n bs = worth (take n bs)
 
+-- the value of the digits that the bytes begin with, and how many they are, at most four
+abbrev pub numeral : List ℕ → Option (ℕ × ℕ)
+numeral bs = if nat_le (digits bs) 4 then Some (value_of (digits bs) bs, digits bs) else None
+
 -- a token of n bytes at place p, whose digits these bytes begin with
 abbrev pub few : (ℕ → TokenKind) → ℕ → ℕ → List ℕ → Piece
-few kind n p bs = cond (nat_le (digits bs) 4) (Whole (kind (value_of (digits bs) bs)) n) (Wrong (TooManyDigits p))
+few kind n p bs = if nat_le (digits bs) 4 then Ok (Some (kind (value_of (digits bs) bs), n)) else Err (TooManyDigits p)
 
 -- the number at place p
 abbrev pub number : ℕ → List ℕ → Piece
@@ -46,12 +57,12 @@ number p bs = few Digits (digits bs) p bs
 
 -- the operand whose letter stands at place p
 abbrev pub operand : Letter → ℕ → List ℕ → Piece
-operand l p bs = cond (digits bs == 0) (Wrong (NoToken p)) (few (Operand l) (digits bs + 1) p bs)
+operand l p bs = if digits bs == 0 then Err (NoToken p) else few (Operand l) (digits bs + 1) p bs
 
 -- letters that are a word, n of them, or no word
 abbrev pub as_word : Option Word → ℕ → ℕ → Piece
-as_word None n p = Wrong (NoToken p)
-as_word (Some w) n p = Whole (Keyword w) n
+as_word None n p = Err (NoToken p)
+as_word (Some w) n p = Ok (Some (Keyword w, n))
 
 -- the word at place p
 abbrev pub keyword : ℕ → List ℕ → Piece
@@ -59,27 +70,27 @@ keyword p bs = as_word (word_of (take (letters bs) bs)) (letters bs) p
 
 -- a capital letter at place p, with these bytes behind it
 abbrev pub capital : Option Letter → ℕ → List ℕ → Piece
-capital None p bs = Wrong (NoToken p)
+capital None p bs = Err (NoToken p)
 capital (Some l) p bs = operand l p bs
 
 abbrev pub signed : Option TokenKind → Piece → Piece
 signed None other = other
-signed (Some k) other = Whole k 1
+signed (Some k) other = Ok (Some (k, 1))
 
 -- what begins at place p
 abbrev pub piece : ℕ → List ℕ → Piece
-piece p [] = Wrong (NoToken p)
+piece p [] = Err (NoToken p)
 piece p (b ∷ bs) =
-    cond (b == 32) Gap
-    (cond (is_ascii_digit b) (number p (b ∷ bs))
-    (cond (is_ascii_lowercase b) (keyword p (b ∷ bs))
-    (signed (sign_of b) (capital (letter_of b) p bs))))
+    if b == 32 then Ok None
+    else (if is_ascii_digit b then number p (b ∷ bs)
+    else (if is_ascii_lowercase b then keyword p (b ∷ bs)
+    else signed (sign_of b) (capital (letter_of b) p bs)))
 
 -- a token has at least one byte, and no more than there are
 abbrev pub Within : Piece → ℕ → Type 0
-Within Gap len = Unit {0}
-Within (Whole k n) len = (0 < n) × (n ≤ len)
-Within (Wrong f) len = Unit {0}
+Within (Ok None) len = Unit {0}
+Within (Ok (Some (k, n))) len = (0 < n) × (n ≤ len)
+Within (Err f) len = Unit {0}
 
 -- the tokens, and the fault before which they end
 pub record Lexed : Type 0 where
@@ -92,9 +103,9 @@ after ts l = record { tokens = ts ++ l.tokens; stop = l.stop }
 
 -- next: the lexing of what stands one byte on, past n more bytes
 abbrev pub follow : Piece → ℕ → (ℕ → Lexed) → Lexed
-follow Gap p next = next 0
-follow (Whole k n) p next = after (record { kind = k; place = p } ∷ []) (next (n - 1))
-follow (Wrong f) p next = record { tokens = []; stop = Some f }
+follow (Ok None) p next = next 0
+follow (Ok (Some (k, n))) p next = after (record { kind = k; place = p } ∷ []) (next (n - 1))
+follow (Err f) p next = record { tokens = []; stop = Some f }
 
 -- the bytes from place p on, of which the first skip belong to a token that is taken
 abbrev pub lex : List ℕ → ℕ → ℕ → Lexed
@@ -104,7 +115,7 @@ lex (b ∷ bs) (suc k) p = lex bs k (p + 1)
 
 -- a text of at most 32,768 bytes as its tokens
 abbrev pub tokens_of : List ℕ → Lexed
-tokens_of text = cond (nat_le (length text) 32768) (lex text 0 0) (record { tokens = []; stop = Some TooLong })
+tokens_of text = if nat_le (length text) 32768 then lex text 0 0 else record { tokens = []; stop = Some TooLong }
 
 -- what a cut answers
 abbrev pub answer : Option TextFault → Result (Unit {0}) TextFault
@@ -113,4 +124,4 @@ answer (Some f) = Err f
 
 -- the tokens in the list
 abbrev pub list_in : Tokens → List Token
-list_in t = vec_items t.list
+list_in t = t.list

@@ -1,5 +1,5 @@
 -- The ten words and their letters. Assumes nothing.
-use Rattle.std.specs.Prelude.{ℕ, cond, List, [], ◌∷◌, Some, None, codes, Option}
+use Rattle.std.specs.Prelude.{ℕ, List, [], ◌∷◌, codes, Option, find}
 use Rattle.std.specs.Str.{bytes_eq}
 use Rattle.text.specs.declared.token.Word.{Word}
 use Rattle.text.specs.declared.token.Word.TheVariants.{Step, Initial, Trans, From, To, When, Hold, Enter, Set, Reset}
@@ -18,8 +18,7 @@ spelling Reset = codes "reset"
 
 -- the first of these words that is spelled so
 abbrev pub among : List Word → List ℕ → Option Word
-among [] bs = None
-among (w ∷ ws) bs = cond (bytes_eq bs (spelling w)) (Some w) (among ws bs)
+among ws bs = find (λ w. bytes_eq bs (spelling w)) ws
 
 abbrev pub ten : List Word
 ten = Step ∷ Initial ∷ Trans ∷ From ∷ To ∷ When ∷ Hold ∷ Enter ∷ Set ∷ Reset ∷ []

@@ -1,22 +1,21 @@
 //! Cutting a text into tokens, see docs/chart-text.md.
-ghost use Rattle.std.specs.Prelude.{◌≡◌, ◌+◌, ◌*◌, ◌<◌, ◌≤◌, [], length, IfOk, vec_capacity};
-ghost use Rattle.text.specs.Lex.{letter_of, sign_of, value_of, number, keyword, operand, piece, Within};
+ghost use Rattle.std.specs.Prelude.{◌≡◌, ◌+◌, ◌*◌, ◌^◌, ◌<◌, ◌≤◌, [], length, drop, IfOk};
+ghost use Rattle.text.specs.Lex.{letter_of, sign_of, numeral, number, keyword, operand, piece, Within};
 ghost use Rattle.text.specs.Runs.{digits, letters};
 ghost use Rattle.text.specs.Spelled.{Spelled, Alone, Rising, end_of};
 ghost use Rattle.text.specs.Lex.{list_in, lex, tokens_of, answer};
 
-use crate::piece::Piece;
 use crate::token::{Letter, Token, TokenKind};
-use crate::tokens::Tokens;
+use crate::tokens::{LONGEST, Tokens};
 use crate::word::word_of;
 use faults::TextFault;
+use room::Reserved;
 use std::alloc::{AllocError, Global};
 
-// The bytes of the longest text, and the digits of the longest run.
-const LONGEST: usize = 32768;
-
+// The digits of the longest number.
 const MOST: usize = 4;
 
+// The letter of an operand. An Option says all that there is to say of a byte.
 fn letter(b: u8) -> Option<Letter>
     ensures { result ≡ letter_of b }
 {
@@ -28,6 +27,7 @@ fn letter(b: u8) -> Option<Letter>
     }
 }
 
+// The token that is a byte of its own.
 fn sign(b: u8) -> Option<TokenKind>
     ensures { result ≡ sign_of b }
 {
@@ -45,128 +45,127 @@ fn sign(b: u8) -> Option<TokenKind>
     }
 }
 
-// How many digits the bytes begin with.
+// How many digits the bytes begin with. This run and the next are functions of their own: the count of a chain is known
+// only to the clause that mirrors it.
 fn digit_run(bytes: &[u8]) -> usize
-    ensures long { result ≡ digits bytes.now }
-    ensures within { result ≤ length bytes.now }
+    ensures { result ≡ digits bytes.now }
 {
-    let mut n = 0;
-    while n < bytes.len() && bytes[n].is_ascii_digit() {
-        n += 1;
-    }
-    n
+    bytes.iter().take_while(|b| b.is_ascii_digit()).count()
 }
 
 // How many letters a to z the bytes begin with.
 fn letter_run(bytes: &[u8]) -> usize
-    ensures long { result ≡ letters bytes.now }
-    ensures within { result ≤ length bytes.now }
+    ensures { result ≡ letters bytes.now }
 {
-    let mut n = 0;
-    while n < bytes.len() && bytes[n].is_ascii_lowercase() {
-        n += 1;
-    }
-    n
+    bytes.iter().take_while(|b| b.is_ascii_lowercase()).count()
 }
 
-// The value of the first `n` bytes, which are digits.
-fn value(bytes: &[u8], n: usize) -> u16
-    requires few { n ≤ 4 }
-    requires all { n ≤ digits bytes.now }
-    ensures { result ≡ value_of n bytes.now }
-{
-    let mut v: u16 = 0;
-    for i in 0..n {
-        v = v * 10 + (bytes[i] - b'0') as u16;
-    }
-    v
-}
-
-// The number that begins at `place` with these bytes.
-fn number_at(bytes: &[u8], place: usize) -> Piece
-    requires { 0 < digits bytes.now }
-    ensures is { result ≡ number place bytes.now }
-    ensures within { Within result (length bytes.now) }
+// The value of the digits that the bytes begin with, and how many they are, if they are not too many.
+fn numeral(bytes: &[u8]) -> Option<(u16, usize)>
+    ensures { result ≡ numeral bytes.now }
 {
     let n = digit_run(bytes);
     if n > MOST {
-        return Piece::Wrong(TextFault::TooManyDigits(place));
+        return None;
     }
-    Piece::Whole(TokenKind::Digits(value(bytes, n)), n)
+    let mut value: u16 = 0;
+    for b in &bytes[..n] {
+        value = value * 10 + u16::from(*b - b'0');
+    }
+    Some((value, n))
 }
 
-// The word that begins at `place` with these bytes.
-fn keyword_at(bytes: &[u8], place: usize) -> Piece
-    requires { 0 < letters bytes.now }
-    ensures is { result ≡ keyword place bytes.now }
-    ensures within { Within result (length bytes.now) }
-{
-    let n = letter_run(bytes);
-    match word_of(&bytes[..n]) {
-        Some(word) => Piece::Whole(TokenKind::Keyword(word), n),
-        None => Piece::Wrong(TextFault::NoToken(place)),
-    }
+// The bytes that are left of a text, and the place where they begin.
+#[derive(Clone, Copy)]
+struct Rest<'a> {
+    bytes: &'a [u8],
+    place: usize,
 }
 
-// The operand whose letter stands at `place`, with these bytes behind it.
-fn operand_at(letter: Letter, rest: &[u8], place: usize) -> Piece
-    ensures is { result ≡ operand letter place rest.now }
-    ensures within { Within result (length rest.now + 1) }
-{
-    let n = digit_run(rest);
-    if n == 0 {
-        return Piece::Wrong(TextFault::NoToken(place));
+impl Rest<'_> {
+    // The number that the bytes begin with.
+    fn number(&self) -> Result<Option<(TokenKind, usize)>, TextFault>
+        requires { 0 < digits self.now.bytes.now }
+        ensures is { result ≡ number self.now.place self.now.bytes.now }
+        ensures within { Within result (length self.now.bytes.now) }
+    {
+        let (value, n) = numeral(self.bytes).ok_or(TextFault::TooManyDigits(self.place))?;
+        Ok(Some((TokenKind::Digits(value), n)))
     }
-    if n > MOST {
-        return Piece::Wrong(TextFault::TooManyDigits(place));
-    }
-    Piece::Whole(TokenKind::Operand(letter, value(rest, n)), n + 1)
-}
 
-// What begins at `place`, where the text goes on with these bytes.
-fn next(bytes: &[u8], place: usize) -> Piece
-    ensures is { result ≡ piece place bytes.now }
-    ensures within { Within result (length bytes.now) }
-{
-    let Some((first, rest)) = bytes.split_first() else {
-        return Piece::Wrong(TextFault::NoToken(place));
-    };
-    let b = *first;
-    if b == b' ' {
-        return Piece::Gap;
+    // The word that the bytes begin with.
+    fn keyword(&self) -> Result<Option<(TokenKind, usize)>, TextFault>
+        requires { 0 < letters self.now.bytes.now }
+        ensures is { result ≡ keyword self.now.place self.now.bytes.now }
+        ensures within { Within result (length self.now.bytes.now) }
+    {
+        let n = letter_run(self.bytes);
+        let word = word_of(&self.bytes[..n]).ok_or(TextFault::NoToken(self.place))?;
+        Ok(Some((TokenKind::Keyword(word), n)))
     }
-    if b.is_ascii_digit() {
-        return number_at(bytes, place);
+
+    // The operand of this letter, which is the first of the bytes.
+    fn operand(&self, letter: Letter) -> Result<Option<(TokenKind, usize)>, TextFault>
+        requires { 0 < length self.now.bytes.now }
+        ensures is { result ≡ operand letter self.now.place (drop 1 self.now.bytes.now) }
+        ensures within { Within result (length self.now.bytes.now) }
+    {
+        let too_many = TextFault::TooManyDigits(self.place);
+        match numeral(&self.bytes[1..]).ok_or(too_many)? {
+            (_, 0) => Err(TextFault::NoToken(self.place)),
+            (value, n) => Ok(Some((TokenKind::Operand(letter, value), n + 1))),
+        }
     }
-    if b.is_ascii_lowercase() {
-        return keyword_at(bytes, place);
+
+    // What the bytes begin with: a blank, or a token with its length.
+    fn piece(&self) -> Result<Option<(TokenKind, usize)>, TextFault>
+        ensures is { result ≡ piece self.now.place self.now.bytes.now }
+        ensures within { Within result (length self.now.bytes.now) }
+    {
+        let fault = TextFault::NoToken(self.place);
+        let (first, _) = self.bytes.split_first().ok_or(fault)?;
+        match *first {
+            b' ' => Ok(None),
+            b'0'..=b'9' => self.number(),
+            b'a'..=b'z' => self.keyword(),
+            b => match sign(b) {
+                Some(kind) => Ok(Some((kind, 1))),
+                None => self.operand(letter(b).ok_or(fault)?),
+            },
+        }
     }
-    if let Some(kind) = sign(b) {
-        return Piece::Whole(kind, 1);
-    }
-    match letter(b) {
-        Some(letter) => operand_at(letter, rest, place),
-        None => Piece::Wrong(TextFault::NoToken(place)),
+
+    // Moves on, past `n` bytes.
+    fn skip(&mut self, n: usize)
+        requires bytes { n ≤ length self.old.bytes.now }
+        requires place { self.old.place + n < 2 ^ 64 }
+        ensures bytes { self.new.bytes.now ≡ drop n self.old.bytes.now }
+        ensures place { self.new.place ≡ self.old.place + n }
+    {
+        self.bytes = &self.bytes[n..];
+        self.place += n;
     }
 }
 
 // Puts the tokens of the text behind each other, up to its first fault.
-fn fill(list: &mut Vec<Token>, text: &[u8]) -> Result<(), TextFault>
-    requires empty { list.old.items ≡ [] }
-    requires room { length text.now ≤ vec_capacity list.old }
-    ensures list { list.new.items ≡ (lex text.now 0 0).tokens }
+fn fill(list: &mut Reserved<Token, LONGEST>, text: &[u8]) -> Result<(), TextFault>
+    requires empty { list.old ≡ [] }
+    requires room { length text.now ≤ LONGEST }
+    ensures list { list.new ≡ (lex text.now 0 0).tokens }
     ensures stop { result ≡ answer (lex text.now 0 0).stop }
-    ensures room { vec_capacity list.new ≡ vec_capacity list.old }
 {
-    let mut at = 0;
-    while at < text.len() {
-        match next(&text[at..], at) {
-            Piece::Gap => at += 1,
-            Piece::Whole(kind, len) => {
-                list.push_reserved(Token { kind, place: at });
-                at += len;
+    let mut rest = Rest {
+        bytes: text,
+        place: 0,
+    };
+    while !rest.bytes.is_empty() {
+        match rest.piece()? {
+            None => rest.skip(1),
+            Some((kind, len)) => {
+                let place = rest.place;
+                list.push(Token { kind, place }).unwrap();
+                rest.skip(len);
             }
-            Piece::Wrong(fault) => return Err(fault),
         }
     }
     Ok(())
@@ -177,8 +176,9 @@ impl Tokens {
     pub fn new(heap: Global) -> Result<Tokens, AllocError>
         ensures { IfOk result (λ t. list_in t ≡ []) }
     {
-        let list = Vec::with_capacity(heap, LONGEST)?;
-        Ok(Tokens { list })
+        Ok(Tokens {
+            list: Reserved::new(heap)?,
+        })
     }
 
     /// Cuts the text into its tokens. At a fault the tokens before it are in the list.
@@ -200,6 +200,6 @@ impl Tokens {
     pub fn list(&self) -> &[Token]
         ensures { result.now ≡ list_in self.now }
     {
-        &self.list
+        self.list.as_slice()
     }
 }

@@ -2,7 +2,6 @@
 #![tactic(auto)]
 
 mod cut;
-mod piece;
 pub mod table;
 pub mod token;
 pub mod tokens;

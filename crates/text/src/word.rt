@@ -1,50 +1,47 @@
 //! The ten words.
 ghost use Rattle.std.specs.Prelude.{◌≡◌};
-ghost use Rattle.std.specs.Str.{bytes_eq};
-ghost use Rattle.text.specs.Spelling.{word_of};
+ghost use Rattle.text.specs.Spelling.{spelling, word_of};
 
 use crate::token::Word;
 
-// Whether the letters are those of the word.
-fn spells(letters: &[u8], word: &[u8]) -> bool
-    ensures { result ≡ bytes_eq letters.now word.now }
-{
-    letters == word
+const WORDS: [Word; 10] = [
+    Word::Step,
+    Word::Initial,
+    Word::Trans,
+    Word::From,
+    Word::To,
+    Word::When,
+    Word::Hold,
+    Word::Enter,
+    Word::Set,
+    Word::Reset,
+];
+
+impl Word {
+    fn spelling(self) -> &'static [u8]
+        ensures { result.now ≡ spelling self }
+    {
+        match self {
+            Word::Step => b"step",
+            Word::Initial => b"initial",
+            Word::Trans => b"trans",
+            Word::From => b"from",
+            Word::To => b"to",
+            Word::When => b"when",
+            Word::Hold => b"hold",
+            Word::Enter => b"enter",
+            Word::Set => b"set",
+            Word::Reset => b"reset",
+        }
+    }
 }
 
 /// The word that the letters spell.
 pub fn word_of(letters: &[u8]) -> Option<Word>
     ensures { result ≡ word_of letters.now }
 {
-    if spells(letters, b"step") {
-        return Some(Word::Step);
-    }
-    if spells(letters, b"initial") {
-        return Some(Word::Initial);
-    }
-    if spells(letters, b"trans") {
-        return Some(Word::Trans);
-    }
-    if spells(letters, b"from") {
-        return Some(Word::From);
-    }
-    if spells(letters, b"to") {
-        return Some(Word::To);
-    }
-    if spells(letters, b"when") {
-        return Some(Word::When);
-    }
-    if spells(letters, b"hold") {
-        return Some(Word::Hold);
-    }
-    if spells(letters, b"enter") {
-        return Some(Word::Enter);
-    }
-    if spells(letters, b"set") {
-        return Some(Word::Set);
-    }
-    if spells(letters, b"reset") {
-        return Some(Word::Reset);
-    }
-    None
+    WORDS
+        .iter()
+        .copied()
+        .find(|word| letters == word.spelling())
 }

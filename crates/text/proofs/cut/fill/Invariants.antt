@@ -1,9 +1,13 @@
-use Rattle.std.proofs.Common.{◌≡◌, ◌-◌, ◌≤◌, length, vec_items, vec_len, vec_capacity}
-use Rattle.text.proofs.Lexing.{Left}
+use Rattle.std.proofs.Common.{◌≡◌, ◌+◌, ◌≤◌, length}
+use Rattle.text.specs.Lex.{lex, after}
 use Rattle.text.proofs.cut.fill.Given as goal
 
-abbrev pub invariant-loop-at : goal.invariant-loop-at
-invariant-loop-at l = (l.at ≤ length l.text) × Left l.text (vec_items l.list) l.at × (vec_len l.list ≤ l.at) × (vec_capacity l.list ≡ vec_capacity l.initial.list)
+abbrev pub invariant-loop-rest : goal.invariant-loop-rest
+invariant-loop-rest l = record {
+  left : lex l.text 0 0 ≡ after l.list (lex l.rest.bytes.now 0 l.rest.place);
+  whole : l.rest.place + length l.rest.bytes.now ≡ length l.text;
+  room : length l.list ≤ l.rest.place;
+}
 
-abbrev pub decreases-loop-at : goal.decreases-loop-at
-decreases-loop-at l = length l.text - l.at
+abbrev pub decreases-loop-rest : goal.decreases-loop-rest
+decreases-loop-rest l = length l.rest.bytes.now
