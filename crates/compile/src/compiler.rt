@@ -6,6 +6,7 @@ ghost use Rattle.compile.specs.Compiled.{lines_of, chart_of_text};
 ghost use Rattle.compile.specs.Steps.{Charted, Fresh};
 
 use chart::checker::Checker;
+use conditions::rest::Rest;
 use faults::{ChartFault, TextFault};
 use std::alloc::{AllocError, Global};
 use text::tokens::Tokens;
@@ -43,11 +44,15 @@ impl Compiler {
         ensures tokens { list_in self.new.tokens ≡ (tokens_of text.now).tokens }
         ensures lines { Translated (lines_of text.now) self.new.draft result }
     {
-        let Err(stop) = self.tokens.cut(text) else {
-            return self.draft.translate(self.tokens.list(), text.len());
+        let cut = self.tokens.cut(text);
+        let tokens = self.tokens.list();
+        let Err(stop) = cut else {
+            let end = text.len();
+            return self.draft.translate(Rest { tokens, end });
         };
-        match self.draft.translate(self.tokens.list(), stop.place()) {
-            Err(fault) if fault.place() < stop.place() => Err(fault),
+        let end = stop.place();
+        match self.draft.translate(Rest { tokens, end }) {
+            Err(fault) if fault.place() < end => Err(fault),
             _ => Err(stop),
         }
     }
@@ -57,7 +62,10 @@ impl Compiler {
         ensures { Charted (chart_of_text text.now) self.new.draft result }
     {
         self.read(text)?;
-        self.checker
-            .check(self.tokens.list(), text.len(), &mut self.scratch)
+        let text = Rest {
+            tokens: self.tokens.list(),
+            end: text.len(),
+        };
+        self.checker.check(text, &mut self.scratch)
     }
 }

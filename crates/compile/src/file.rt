@@ -26,11 +26,6 @@ pub(crate) fn write_draft(draft: &Draft, end: usize, buffer: &mut [u8]) -> Resul
     ensures file { (lines : List Tree) → Drafted lines draft.now → Files lines end buffer.old buffer.new result }
     ensures loads_back { (lines : List Tree) → Drafted lines draft.now → AllFit lines → IfOk result (λ n. code_of (take n buffer.new) ≡ Right (program_of lines)) }
 {
-    let Some(contents) = draft.contents() else {
-        return Err(CodeFault::TooManyWords(end));
-    };
-    match write(contents, buffer) {
-        Ok(length) => Ok(length),
-        Err(fault) => Err(code_fault(end, fault)),
-    }
+    let contents = draft.contents().ok_or(CodeFault::TooManyWords(end))?;
+    write(contents, buffer).map_err(|fault| code_fault(end, fault))
 }
