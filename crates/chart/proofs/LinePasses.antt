@@ -6,26 +6,19 @@ use Rattle.text.specs.declared.token.Token.{Token}
 use Rattle.lines.specs.declared.shape.Number.{Number}
 use Rattle.lines.specs.declared.shape.Line.{Line}
 use Rattle.lines.specs.declared.shape.Line.TheVariants.{Empty, Step, Trans, Hold, Enter}
-use Rattle.lines.specs.Grammar.{Tree, FitsLine, step}
+use Rattle.lines.specs.Grammar.{Tree, step}
 use Rattle.lines.specs.Scan.{scan, start, reads, fails}
 use Rattle.lines.specs.Parts.{Shows}
 use Rattle.lines.specs.Text.{read_lines, between, put}
 use Rattle.lines.proofs.WholeText.{first_line, first_fails}
 use Rattle.chart.specs.Said.{steps_of, is_initial, all}
 use Rattle.chart.specs.Checks.{has, same_number, noted, faults_in, chart_faults, has_initial, first_of, judged, checked, on_lines}
-use Rattle.chart.specs.Sets.{member, Knows}
+use Rattle.chart.specs.declared.set.NumberSet.{NumberSet}
+use Rattle.chart.specs.Sets.{holds, Knows}
 use Rattle.chart.specs.First.{FirstFault}
-use Rattle.chart.specs.Seen.{SmallLine, Declared}
+use Rattle.chart.specs.Seen.{Declared}
 use Rattle.chart.proofs.Least.{noted_append}
 use Rattle.chart.proofs.FirstFaults.{checked_law}
-
--- a line that fits has small numbers
-pub shows_small : (l : Line) (t : Tree) → Shows l t → FitsLine t → SmallLine l
-shows_small Empty t e h = tt
-shows_small (Step n b) t e h = subst FitsLine e h
-shows_small (Trans x) t e h = (subst FitsLine e.3 h).0
-shows_small (Hold n q) t e h = subst FitsLine e h
-shows_small (Enter n a q) t e h = tt
 
 -- ---- the first pass: one line more at the end
 grouped : (a b c : Bool) → (a || (b || c)) ≡ ((a || b) || c)
@@ -55,7 +48,7 @@ initial_push [] t = alone (is_initial t)
 initial_push (l ∷ ls) t = ap (λ b. is_initial l || b) (initial_push ls t) ∙ grouped (is_initial l) (has_initial ls) (is_initial t)
 
 -- a line that declares a step
-pub knows_step : (old new : List ℕ) (ls : List Tree) (t : Tree) (n : Number) (b : Bool) → t ≡ step n b → ((m : ℕ) → member m new ≡ (eqb m n.value || member m old)) → Knows old (all steps_of ls) → (b ≡ is_initial t) × Knows new (all steps_of (ls ++ t ∷ []))
+pub knows_step : (old new : NumberSet) (ls : List Tree) (t : Tree) (n : Number) (b : Bool) → t ≡ step n b → ((m : ℕ) → holds new m ≡ (eqb m n.value || holds old m)) → Knows old (all steps_of ls) → (b ≡ is_initial t) × Knows new (all steps_of (ls ++ t ∷ []))
 knows_step old new ls t n b e added knows = (
   sym (ap is_initial e),
   λ m. added m.value ∙
@@ -74,17 +67,10 @@ silent (Trans x) t e h = (ap is_initial (sym e.3), ap steps_of e.3)
 silent (Hold n q) t e h = (ap is_initial (sym e), ap steps_of e)
 silent (Enter n a q) t e h = (ap is_initial (sym e), ap steps_of e)
 
-pub knows_other : (old : List ℕ) (ls : List Tree) (l : Line) (t : Tree) → Shows l t → ((n : Number) (b : Bool) → l ≡ Step n b → ⊥) → Knows old (all steps_of ls) → (false ≡ is_initial t) × Knows old (all steps_of (ls ++ t ∷ []))
+pub knows_other : (old : NumberSet) (ls : List Tree) (l : Line) (t : Tree) → Shows l t → ((n : Number) (b : Bool) → l ≡ Step n b → ⊥) → Knows old (all steps_of ls) → (false ≡ is_initial t) × Knows old (all steps_of (ls ++ t ∷ []))
 knows_other old ls l t e h knows =
     let s = silent l t e h in
     (s.0, λ m. knows m ∙ (ap (λ ns. has same_number m ns || has same_number m (all steps_of ls)) (sym s.1) ∙ sym (has_push m ls t)))
-
--- some numbers have the values of a set
-pub knows_some : (set : List ℕ) → (ns : List Number) × Knows set ns
-knows_some [] = ([], λ n. refl)
-knows_some (v ∷ vs) =
-    let rest = knows_some vs in
-    (record { value = v; place = 0 } ∷ rest.0, λ n. ap (λ b. eqb n.value v || b) (rest.1 n))
 
 -- ---- the second pass: what is left, behind the lines before, gives the whole
 abbrev pub faults_from : List Number → List Tree → Option ChartFault → List Tree → Option ChartFault
@@ -110,14 +96,14 @@ fault_all f (t ∷ ts) e whole none h = absurd (omega arith)
 abbrev pub faults_by : List Number → List Tree → Option ChartFault
 faults_by ns ls = first_of (chart_faults ns [] ls)
 
-pub answered : (text : Result (List Tree) TextFault) (initial : Bool) (declared : List ℕ) (e : ℕ) (o : Option ChartFault) (d : Declared text initial declared) → Ok o ≡ on_lines (faults_by (all steps_of d.lines)) text → judged o initial e ≡ checked text e
+pub answered : (text : Result (List Tree) TextFault) (initial : Bool) (declared : NumberSet) (e : ℕ) (o : Option ChartFault) (d : Declared text initial declared) → Ok o ≡ on_lines (faults_by (all steps_of d.lines)) text → judged o initial e ≡ checked text e
 answered text initial declared e o d h =
     let F = faults_by (all steps_of d.lines) in
     let at : ◌≡◌ {A = Result (Option ChartFault) TextFault} (Ok o) (Ok (F d.lines)) = h ∙ ap (on_lines F) d.read in
     let same : o ≡ F d.lines = cc in
     ap (λ x. judged x initial e) same ∙ (ap (λ b. judged (F d.lines) b e) d.one ∙ sym (ap (λ t. checked t e) d.read))
 
-pub never_fails : (text : Result (List Tree) TextFault) (initial : Bool) (declared : List ℕ) (x : TextFault) (d : Declared text initial declared) → Err x ≡ on_lines (faults_by (all steps_of d.lines)) text → ⊥
+pub never_fails : (text : Result (List Tree) TextFault) (initial : Bool) (declared : NumberSet) (x : TextFault) (d : Declared text initial declared) → Err x ≡ on_lines (faults_by (all steps_of d.lines)) text → ⊥
 never_fails text initial declared x d h =
     let F = faults_by (all steps_of d.lines) in
     let at : ◌≡◌ {A = Result (Option ChartFault) TextFault} (Err x) (Ok (F d.lines)) = h ∙ ap (on_lines F) d.read in

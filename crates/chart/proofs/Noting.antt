@@ -1,42 +1,40 @@
 -- Noting faults one after another. Assumes nothing.
-use Rattle.std.proofs.Common.{◌≡◌, ℕ, ◌+◌, ◌<◌, cond, List, [], ◌∷◌, ◌++◌, map, length, get_or, drop, Option, sym, ap, ◌∙◌, append-nil}
+use Rattle.std.proofs.Common.{◌≡◌, ℕ, ◌+◌, ◌<◌, Bool, true, false, cond, if◌then◌else◌, ◌||◌, eqb, not, List, [], ◌∷◌, ◌++◌, map, length, get_or, drop, sym, refl, ap, ◌∙◌, subst}
 use mathlib.Core.List.{map-append}
+use Rattle.std.proofs.lemmas.List.Elements.{filter-append}
 use Rattle.std.proofs.lemmas.List.{drop_more}
 use Rattle.faults.specs.declared.ChartFault.{ChartFault}
+use Rattle.faults.specs.declared.ChartFault.TheVariants.{ListedTwice}
 use Rattle.text.specs.declared.token.Token.{Token}
 use Rattle.lines.specs.declared.shape.Number.{Number}
-use Rattle.lines.specs.Scan.{refs}
-use Rattle.lines.specs.Scan as lines
 use Rattle.lines.specs.Parts.{counted, numbers_in}
-use Rattle.chart.specs.Checks.{noted, has, repeated, same_number, listed_twice, declarations, uses, listings, repetitions}
+use Rattle.chart.specs.declared.set.NumberSet.{NumberSet}
+use Rattle.chart.specs.declared.findings.Findings.{Findings}
+use Rattle.chart.specs.Checks.{noted, has, repeated, same_number, undeclared_step, listed_twice, listings}
+use Rattle.chart.specs.Sets.{holds, Knows, unknown}
+use Rattle.chart.specs.Findings.{noting, uses_by}
 use Rattle.chart.proofs.Least.{noted_append}
-use Rattle.chart.proofs.Gathered.{uses_more}
 
--- ---- one token more
-pub numbers_next : (ts : List Token) (i : ℕ) (d : Token) (vs : List Number) → i < length ts → counted (get_or ts i d).place (get_or ts i d).kind ≡ vs → numbers_in (drop i ts) ≡ vs ++ numbers_in (drop (i + 1) ts)
-numbers_next ts i d vs lt h = ap numbers_in (drop_more ts i d lt) ∙ ap (λ v. v ++ numbers_in (drop (i + 1) ts)) h
+-- ---- steps that are not declared
+pub uses_append : (f : Findings) (ns ms : List Number) → noting f (uses_by f.declared.now (ns ++ ms)) ≡ noting (noting f (uses_by f.declared.now ns)) (uses_by f.declared.now ms)
+uses_append f ns ms =
+    let set = f.declared.now in
+    ap (λ l. noting f (map undeclared_step l)) (filter-append (λ n. not (holds set n.value)) ns ms) ∙
+    (ap (noting f) (map-append undeclared_step (unknown set ns) (unknown set ms)) ∙
+    ap (λ k. record f { first = k }) (noted_append f.first (uses_by set ns) (uses_by set ms)))
 
-pub refs_next : (ts : List Token) (i : ℕ) (d : Token) (vs : List Number) → i < length ts → lines.noted (get_or ts i d).place (get_or ts i d).kind ≡ vs → refs (drop i ts) ≡ vs ++ refs (drop (i + 1) ts)
-refs_next ts i d vs lt h = ap refs (drop_more ts i d lt) ∙ ap (λ v. v ++ refs (drop (i + 1) ts)) h
+-- ---- repeated entries
+pub repeated_next : {A : Type 0} (kind : A → ChartFault) (x : A) (b : Bool) (rest : List A) (f : Findings) → noting f (map kind (cond b (x ∷ []) [] ++ rest)) ≡ noting (noting f (if b then kind x ∷ [] else [])) (map kind rest)
+repeated_next kind x true rest f = refl
+repeated_next kind x false rest f = refl
 
-pub uses_next : (declared : List Number) (k k' w : Option ChartFault) (ns vs rest : List Number) → ns ≡ vs ++ rest → k' ≡ noted k (uses declared vs) → noted k (uses declared ns) ≡ w → noted k' (uses declared rest) ≡ w
-uses_next declared k k' w ns vs rest e n h =
-    ap (λ z. noted z (uses declared rest)) n ∙
-    (sym (noted_append k (uses declared vs) (uses declared rest)) ∙ (ap (noted k) (sym (uses_more declared vs rest) ∙ ap (uses declared) (sym e)) ∙ h))
+pub knows_more : (old new : NumberSet) (n : Number) (ns : List Number) → ((m : ℕ) → holds new m ≡ (eqb m n.value || holds old m)) → Knows old ns → Knows new (n ∷ ns)
+knows_more old new n ns added knows = λ m. added m.value ∙ ap (λ b. eqb m.value n.value || b) (knows m)
 
--- a number of a list, behind those before it
-pub listed_next : (before : List Number) (n : Number) (k k' w : Option ChartFault) (ns rest : List Number) → ns ≡ n ∷ rest → k' ≡ noted k (listings before (n ∷ [])) → noted k (listings before ns) ≡ w → noted k' (listings (n ∷ before) rest) ≡ w
-listed_next before n k k' w ns rest e m h =
-    let here = cond (has same_number n before) (n ∷ []) [] in
-    let there = repeated same_number (n ∷ before) rest in
-    ap (λ z. noted z (map listed_twice there)) (m ∙ ap (λ z. noted k (map listed_twice z)) (append-nil here)) ∙
-    (sym (noted_append k (map listed_twice here) (map listed_twice there)) ∙ (ap (noted k) (sym (map-append listed_twice here there) ∙ ap (listings before) (sym e)) ∙ h))
+pub numbers_next : (ts : List Token) (i : ℕ) (d : Token) (ns : List Number) → i < length ts → counted (get_or ts i d).place (get_or ts i d).kind ≡ ns → numbers_in (drop i ts) ≡ ns ++ numbers_in (drop (i + 1) ts)
+numbers_next ts i d ns lt h = ap numbers_in (drop_more ts i d lt) ∙ ap (λ l. l ++ numbers_in (drop (i + 1) ts)) h
 
--- ---- a transition
-pub transition_noted : (declared before : List Number) (n : Number) (fs ts us : List Number) (k₀ k₁ k₂ k₃ k₄ k₅ k₆ : Option ChartFault) → k₁ ≡ noted k₀ (declarations before (n ∷ [])) → k₂ ≡ noted k₁ (uses declared fs) → k₃ ≡ noted k₂ (uses declared ts) → k₄ ≡ noted k₃ (uses declared us) → k₅ ≡ noted k₄ (repetitions fs) → k₆ ≡ noted k₅ (repetitions ts) → k₆ ≡ noted k₀ (declarations before (n ∷ []) ++ (uses declared (fs ++ (ts ++ us)) ++ ((repetitions fs ++ (repetitions ts ++ [])) ++ [])))
-transition_noted declared before n fs ts us k₀ k₁ k₂ k₃ k₄ k₅ k₆ a b c d e f =
-    let all : noted k₀ (declarations before (n ∷ []) ++ (uses declared (fs ++ (ts ++ us)) ++ ((repetitions fs ++ (repetitions ts ++ [])) ++ []))) ≡ noted (noted (noted (noted (noted (noted k₀ (declarations before (n ∷ []))) (uses declared fs)) (uses declared ts)) (uses declared us)) (repetitions fs)) (repetitions ts) =
-    noted_append k₀ (declarations before (n ∷ [])) _ ∙
-    (ap (λ l. noted (noted k₀ (declarations before (n ∷ []))) (l ++ ((repetitions fs ++ (repetitions ts ++ [])) ++ []))) (uses_more declared fs (ts ++ us) ∙ ap (λ l. uses declared fs ++ l) (uses_more declared ts us)) ∙
-    (simp (noted_append, append-nil))) in
-    cc
+-- one number of a list more
+pub listed_next : (before : List Number) (n : Number) (b : Bool) (f f' whole : Findings) (ns rest : List Number) → ns ≡ n ∷ rest → b ≡ has same_number n before → f' ≡ noting f (if b then ListedTwice n.place ∷ [] else []) → noting f (listings before ns) ≡ whole → noting f' (listings (n ∷ before) rest) ≡ whole
+listed_next before n b f f' whole ns rest e known it h =
+    rw (it, known) (sym (repeated_next listed_twice n (has same_number n before) (repeated same_number (n ∷ before) rest) f) ∙ (ap (λ l. noting f (listings before l)) (sym e) ∙ h))
