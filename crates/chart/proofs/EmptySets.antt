@@ -1,5 +1,5 @@
 -- Sets that have no number. Assumes nothing.
-use Rattle.std.proofs.Common.{◌≡◌, ℕ, false, length, get_or, [], replicate, sym, refl, subst, ⊎_elim, arith}
+use Rattle.std.proofs.Common.{◌≡◌, ℕ, false, get_or, [], replicate, sym, refl, subst, ⊎_elim, arith}
 use Rattle.std.proofs.lemmas.Bool.{cases_lt}
 use Rattle.std.proofs.lemmas.List.{get_or-replicate, get_or_past, length-replicate}
 use Rattle.chart.specs.declared.set.NumberSet.{NumberSet}

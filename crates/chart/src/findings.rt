@@ -1,5 +1,5 @@
 //! The faults of the lines: of those met so far the first is kept.
-ghost use Rattle.std.specs.Prelude.{◌≡◌, List, [], ◌∷◌, MatchOption, if◌then◌else◌};
+ghost use Rattle.std.specs.Prelude.{◌≡◌, List, [], ◌∷◌, if◌then◌else◌};
 ghost use Rattle.std.specs.List.{flat_map};
 ghost use Rattle.text.specs.declared.token.Token.{Token as TheToken};
 ghost use Rattle.lines.specs.declared.shape.Number.{Number as TheNumber};
@@ -51,7 +51,10 @@ impl Findings<'_> {
     pub(crate) fn note_use(&mut self, n: Number)
         ensures { self.new ≡ noting self.old (uses_by self.old.declared.now (n ∷ [])) }
     {
-        self.note_if(!self.declared.has(n.value), ChartFault::UndeclaredStep(n.place));
+        self.note_if(
+            !self.declared.has(n.value),
+            ChartFault::UndeclaredStep(n.place),
+        );
     }
 
     /// 8: notes the steps that are named by tokens and are not declared.

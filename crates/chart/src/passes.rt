@@ -22,11 +22,13 @@ use words::list::WordList;
 fn declare(declared: &mut NumberSet, line: Line) -> bool
     ensures { (tree : Tree) (lines : List Tree) → Shows line.entry tree → Knows declared.old (all steps_of lines) → (result ≡ is_initial tree) × Knows declared.new (all steps_of (lines ++ tree ∷ [])) }
 {
-    if let Line::Step(n, initial) = line {
-        declared.add(n.value);
-        return initial;
+    match line {
+        Line::Step(n, initial) => {
+            declared.add(n.value);
+            initial
+        }
+        _ => false,
     }
-    false
 }
 
 // Finds the steps that the lines declare, and whether one is initial.

@@ -17,8 +17,7 @@ impl HeldTable {
     pub(crate) fn new(heap: Global) -> Result<HeldTable, AllocError>
         ensures { IfOk result (λ t. (s q : ℕ) → marked t.rows.items s q ≡ false) }
     {
-        let mut rows = Vec::new(heap);
-        rows.resize(256, NumberSet::new())?;
+        let rows = vec![in heap; NumberSet::new(); 256]?;
         Ok(HeldTable { rows })
     }
 

@@ -1,6 +1,5 @@
 use Rattle.std.proofs.Common.{◌+◌, [], ◌∷◌, drop, sym, ap, ◌∙◌}
 use Rattle.lines.specs.Parts.{numbers_in}
-use Rattle.chart.specs.Sets.{holds, Knows}
 use Rattle.chart.specs.Checks.{listings}
 use Rattle.chart.specs.Findings.{noting}
 use Rattle.chart.proofs.Noting.{numbers_next, listed_next, knows_more}

@@ -2,7 +2,6 @@ use Rattle.std.proofs.Common.{◌&&◌, ◌||◌, ◌==◌, [], ◌∷◌, ◌++
 use Rattle.lines.specs.Parts.{Shows}
 use Rattle.chart.specs.Said.{holdings_of, holding, all}
 use Rattle.chart.specs.Checks.{noted, holdings}
-use Rattle.chart.specs.Seen.{NotesLine}
 use Rattle.chart.proofs.Noting.{holding_noted, uses_known}
 use Rattle.chart.proofs.seen.Seen.note_line.Goals as goal
 

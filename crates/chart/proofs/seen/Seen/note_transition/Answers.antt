@@ -1,4 +1,4 @@
-use Rattle.std.proofs.Common.{List, [], ◌∷◌, ◌++◌, sym, ap, ◌∙◌}
+use Rattle.std.proofs.Common.{List, [], ◌∷◌, ◌++◌, ap, ◌∙◌}
 use Rattle.text.specs.declared.token.Token.{Token}
 use Rattle.lines.specs.declared.shape.Number.{Number}
 use Rattle.lines.specs.Grammar.{items}
@@ -8,7 +8,6 @@ use Rattle.lines.specs.Parts.{counted}
 use Rattle.chart.specs.declared.findings.Findings.{Findings}
 use Rattle.chart.specs.Said.{transitions_of, all}
 use Rattle.chart.specs.Checks.{noted, declarations, repetitions, lists}
-use Rattle.chart.specs.Seen.{NotesLine}
 use Rattle.chart.specs.Findings.{noting, uses_by}
 use Rattle.chart.proofs.Noting.{transition_noted, uses_known, numbers_flat, refs_flat, knows_more}
 use Rattle.chart.proofs.seen.Seen.note_transition.Goals as goal
