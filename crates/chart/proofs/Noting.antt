@@ -44,25 +44,25 @@ refs_flat [] = refl
 refs_flat (t ∷ ts) = ap (λ l. lines.noted t.place t.kind ++ l) (refs_flat ts)
 
 -- ---- repeated entries
-pub repeated_next : {A : Type 0} (kind : A → ChartFault) (x : A) (b : Bool) (rest : List A) (f : Findings) → noting f (map kind (cond b (x ∷ []) [] ++ rest)) ≡ noting (noting f (if b then kind x ∷ [] else [])) (map kind rest)
-repeated_next kind x true rest f = refl
-repeated_next kind x false rest f = refl
-
-pub knows_more : (old new : NumberSet) (n : Number) (ns : List Number) → ((m : ℕ) → holds new m ≡ (eqb m n.value || holds old m)) → Knows old ns → Knows new (n ∷ ns)
-knows_more old new n ns added knows = λ m. added m.value ∙ ap (λ b. eqb m.value n.value || b) (knows m)
-
 pub numbers_next : (ts : List Token) (i : ℕ) (d : Token) (ns : List Number) → i < length ts → counted (get_or ts i d).place (get_or ts i d).kind ≡ ns → numbers_in (drop i ts) ≡ ns ++ numbers_in (drop (i + 1) ts)
 numbers_next ts i d ns lt h = ap numbers_in (drop_more ts i d lt) ∙ ap (λ l. l ++ numbers_in (drop (i + 1) ts)) h
 
 -- one number of a list more
-pub listed_next : (before : List Number) (n : Number) (b : Bool) (f f' whole : Findings) (ns rest : List Number) → ns ≡ n ∷ rest → b ≡ has same_number n before → f' ≡ noting f (if b then ListedTwice n.place ∷ [] else []) → noting f (listings before ns) ≡ whole → noting f' (listings (n ∷ before) rest) ≡ whole
-listed_next before n b f f' whole ns rest e known it h =
-    rw (it, known) (sym (repeated_next listed_twice n (has same_number n before) (repeated same_number (n ∷ before) rest) f) ∙ (ap (λ l. noting f (listings before l)) (sym e) ∙ h))
+pub listed_next : (before : List Number) (n : Number) (f f' whole : Findings) (ns rest : List Number) → ns ≡ n ∷ rest → f' ≡ noting f (listings before (n ∷ [])) → noting f (listings before ns) ≡ whole → noting f' (listings (n ∷ before) rest) ≡ whole
+listed_next before n f f' whole ns rest e it h =
+    rw it (sym (one_more (has same_number n before) (repeated same_number (n ∷ before) rest)) ∙ (ap (λ l. noting f (listings before l)) (sym e) ∙ h))
+  where
+    one_more : (b : Bool) (ns : List Number) → noting f (map listed_twice (cond b (n ∷ []) [] ++ ns)) ≡ noting (noting f (map listed_twice (cond b (n ∷ []) [] ++ []))) (map listed_twice ns)
+    one_more true ns = refl
+    one_more false ns = refl
 
 -- ---- a line's faults, by the set of the steps that are declared
 one_fault : {A : Type 0} (kind : A → ChartFault) (x : A) (b : Bool) → (if b then kind x ∷ [] else []) ≡ map kind (cond b (x ∷ []) [] ++ [])
 one_fault kind x true = refl
 one_fault kind x false = refl
+
+pub knows_more : (old new : NumberSet) (n : Number) (ns : List Number) → ((m : ℕ) → holds new m ≡ (eqb m n.value || holds old m)) → Knows old ns → Knows new (n ∷ ns)
+knows_more old new n ns added knows = λ m. added m.value ∙ ap (λ b. eqb m.value n.value || b) (knows m)
 
 pub holding_noted : (before : List Holding) (n q : Number) (b : Bool) (f f₁ f₂ : Findings) → b ≡ has same_holding (holding n q) before → f₁ ≡ noting f (uses_by f.declared.now (n ∷ [])) → f₂ ≡ noting f₁ (if b then HeldTwice q.place ∷ [] else []) → f₂ ≡ noting f (uses_by f.declared.now (n ∷ []) ++ holdings before (holding n q ∷ []))
 holding_noted before n q b f f₁ f₂ held e₁ e₂ =

@@ -4,7 +4,8 @@ ghost use Rattle.std.specs.List.{flat_map};
 ghost use Rattle.text.specs.declared.token.Token.{Token as TheToken};
 ghost use Rattle.lines.specs.declared.shape.Number.{Number as TheNumber};
 ghost use Rattle.lines.specs.Parts.{numbers_in};
-ghost use Rattle.chart.specs.Checks.{precedes, keep, repetitions};
+ghost use Rattle.chart.specs.Checks.{precedes, keep, listings, repetitions};
+ghost use Rattle.chart.specs.Sets.{Knows};
 ghost use Rattle.chart.specs.Findings.{Named, noting, uses_by};
 
 use crate::set::NumberSet;
@@ -76,8 +77,16 @@ impl Findings<'_> {
         let mut listed = NumberSet::new();
         for t in list {
             if let Some(n) = number_of(*t) {
-                self.note_if(listed.add(n.value), ChartFault::ListedTwice(n.place));
+                self.note_listing(&mut listed, n);
             }
         }
+    }
+
+    // 9: notes a number that stands in the list already, and counts it as listed.
+    fn note_listing(&mut self, listed: &mut NumberSet, n: Number)
+        ensures faults { (ns : List TheNumber) → Knows listed.old ns → self.new ≡ noting self.old (listings ns (n ∷ [])) }
+        ensures counts { (ns : List TheNumber) → Knows listed.old ns → Knows listed.new (n ∷ ns) }
+    {
+        self.note_if(listed.add(n.value), ChartFault::ListedTwice(n.place));
     }
 }
