@@ -5,7 +5,7 @@ use Rattle.std.specs.List.{flat_map}
 use Rattle.std.proofs.lemmas.List.Elements.{filter-append}
 use Rattle.std.proofs.lemmas.List.{drop_more}
 use Rattle.faults.specs.declared.ChartFault.{ChartFault}
-use Rattle.faults.specs.declared.ChartFault.TheVariants.{DeclaredTwice, ListedTwice, HeldTwice}
+use Rattle.faults.specs.declared.ChartFault.TheVariants.{DeclaredTwice, HeldTwice}
 use Rattle.text.specs.declared.token.Token.{Token}
 use Rattle.lines.specs.declared.shape.Number.{Number}
 use Rattle.lines.specs.Scan.{refs}
