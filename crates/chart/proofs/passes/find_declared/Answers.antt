@@ -1,6 +1,6 @@
 use Rattle.std.proofs.Common.{◌||◌, [], ◌∷◌, ◌++◌, sym, ap, ◌∙◌, rules}
 use Rattle.std.proofs.lemmas.Result.{err_from_is_err_and}
-use Rattle.lines.proofs.WholeText.{left_less, left_fails, left_none}
+use Rattle.lines.proofs.WholeText.{left_less, left_fails}
 use Rattle.chart.specs.Said.{is_initial}
 use Rattle.chart.proofs.LinePasses.{initial_push}
 use Rattle.chart.proofs.passes.find_declared.Goals as goal
@@ -21,11 +21,3 @@ loop-rest-preserved c =
       ap (λ b. c.loop-rest.any_initial || b) d.0 ∙ (ap (λ b. b || is_initial r.tree) c.loop-rest.invariant.2 ∙ sym (initial_push ls r.tree)),
       d.1,
     )
-
-pub returns : goal.returns
-returns c = record {
-  lines = c.loop-rest.invariant.0;
-  read = left_none c.args.tokens.now c.loop-rest.rest.now c.args.end c.loop-rest.invariant.0 c.loop-rest.invariant.1 (search rules);
-  one = c.loop-rest.invariant.2;
-  steps = c.loop-rest.invariant.3;
-}

@@ -1,6 +1,6 @@
 use Rattle.std.proofs.Common.{◌∷◌, Err, ap, ◌∙◌, rules}
 use Rattle.std.proofs.lemmas.Result.{err_from_is_err_and}
-use Rattle.chart.proofs.LinePasses.{faults_from, fault_more, fault_fails, fault_all}
+use Rattle.chart.proofs.LinePasses.{faults_from, fault_more, fault_fails}
 use Rattle.chart.proofs.passes.find_fault.Goals as goal
 
 pub returns-in_err-line : goal.returns-in_err-line
@@ -22,7 +22,3 @@ loop-rest-preserved c =
           fault_more ns before r.tree c.loop-rest.findings.first c.note_line.new.findings.first c.loop-rest.rest.now c.in_ok-line.after.now c.args.end _ (search rules) r.is
           (line.faults ns (rw inv.2 knows)) (inv.3 ns knows),
     )
-
-pub returns : goal.returns
-returns c = λ ns knows.
-    fault_all (faults_from ns c.loop-rest.invariant.0 c.loop-rest.findings.first) c.loop-rest.rest.now c.args.end _ (search rules) (c.loop-rest.invariant.3 ns knows)
