@@ -1,5 +1,5 @@
 -- The two passes over the lines of a text. Assumes nothing.
-use Rattle.std.proofs.Common.{◌≡◌, ℕ, ◌<◌, ◌≤◌, Bool, ◌||◌, List, [], ◌∷◌, ◌++◌, length, Ok, Err, Option, Result, sym, refl, ap, ◌∙◌, subst, arith}
+use Rattle.std.proofs.Common.{◌≡◌, ℕ, ◌<◌, Bool, ◌||◌, List, [], ◌∷◌, ◌++◌, length, Ok, Err, Option, Result, sym, refl, ap, ◌∙◌, subst, arith}
 use Rattle.faults.specs.declared.TextFault.{TextFault}
 use Rattle.faults.specs.declared.ChartFault.{ChartFault}
 use Rattle.text.specs.declared.token.Token.{Token}
@@ -45,10 +45,6 @@ fault_more ns before t first last rest after e whole some is n h =
 
 pub fault_fails : {A : Type 0} (f : List Tree → A) (rest : List Token) (e : ℕ) (x : TextFault) (whole : Result A TextFault) → 0 < length rest → scan rest start e ≡ fails x → on_lines f (read_lines rest between e) ≡ whole → Err x ≡ whole
 fault_fails f rest e x whole some is h = sym (ap (on_lines f) (first_fails rest e x some is)) ∙ h
-
-pub fault_all : {A : Type 0} (f : List Tree → A) (rest : List Token) (e : ℕ) (whole : Result A TextFault) → length rest ≤ 0 → on_lines f (read_lines rest between e) ≡ whole → Ok (f []) ≡ whole
-fault_all f [] e whole none h = h
-fault_all f (t ∷ ts) e whole none h = absurd (omega arith)
 
 -- ---- the answer of both passes
 abbrev pub faults_by : List Number → List Tree → Option ChartFault

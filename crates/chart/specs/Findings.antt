@@ -1,4 +1,4 @@
--- What is found of the faults. Assumes nothing.
+-- What is kept of the faults that are noted. Assumes nothing.
 use Rattle.std.specs.Prelude.{◌≡◌, List, [], ◌∷◌, map, Option, MatchOption}
 use Rattle.faults.specs.declared.ChartFault.{ChartFault}
 use Rattle.text.specs.declared.token.Token.{Token}
@@ -16,6 +16,6 @@ noting old fs = record old { first = noted old.first fs }
 abbrev pub uses_by : NumberSet → List Number → List ChartFault
 uses_by set ns = map undeclared_step (unknown set ns)
 
--- an answer that may be given for a token is the number that the token names
+-- what may be answered for a token is the number that it names, if it names one
 abbrev pub Named : (Token → Option Number → Type 0) → (Token → List Number) → Type 0
 Named Answers numbers = (t : Token) (o : Option Number) → Answers t o → MatchOption o (numbers t ≡ []) (λ n. numbers t ≡ n ∷ [])

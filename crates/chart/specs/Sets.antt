@@ -17,6 +17,7 @@ Knows set ns = (n : Number) → holds set n.value ≡ has same_number n ns
 abbrev pub unknown : NumberSet → List Number → List Number
 unknown set ns = filter (λ n. not (holds set n.value)) ns
 
+-- what is read behind the end of a table
 abbrev pub nothing : NumberSet
 nothing = record { marks = [] }
 
