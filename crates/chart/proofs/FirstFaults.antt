@@ -6,7 +6,7 @@ use Rattle.faults.specs.declared.TextFault.{TextFault}
 use Rattle.faults.specs.declared.ChartFault.{ChartFault}
 use Rattle.faults.specs.declared.ChartFault.TheVariants.{Text, DeclaredTwice, UndeclaredStep, ListedTwice, HeldTwice, NoInitialStep}
 use Rattle.lines.specs.declared.shape.Number.{Number}
-use Rattle.lines.specs.Grammar.{Tree, empty, step, trans, hold, enter}
+use Rattle.lines.specs.Grammar.{Tree, empty, step}
 use Rattle.chart.specs.Said.{Holding, steps_of, transitions_of, uses_of, lists_of, holdings_of, is_initial, all}
 use Rattle.chart.specs.Checks.{has, repeated, same_number, same_holding, declared_twice, undeclared_step, listed_twice, held_twice, declarations, undeclared, uses, repetitions, lists, holdings, chart_faults, first_of, has_initial, judged, chart_of, checked}
 use Rattle.chart.specs.First.{Repeats, NumberTwice, HoldingTwice, InOneList, NotDeclared, FaultOf, InitialStep, First, FirstFault}
@@ -191,11 +191,8 @@ initial_in (t ∷ ts) zero n d h e = or_left (is_initial t) (has_initial ts) (ap
 initial_in (t ∷ ts) (suc i) n d h e = or_right (is_initial t) (has_initial ts) (initial_in ts i n d (le_of_suc-le-suc h) e)
 
 initial_line : (t : Tree) → is_initial t ≡ true → (n : Number) × (t ≡ step n true)
-initial_line empty h = absurd (false≢true h)
 initial_line (step n b) h = (n, ap (λ c. step n c) h)
-initial_line (trans n fs ts c us) h = absurd (false≢true h)
-initial_line (hold n q) h = absurd (false≢true h)
-initial_line (enter n a q) h = absurd (false≢true h)
+initial_line _ h = absurd (false≢true h)
 
 in_initial : (ls : List Tree) → has_initial ls ≡ true → InitialStep ls
 in_initial [] h = absurd (false≢true h)

@@ -3,39 +3,30 @@ use Rattle.std.proofs.Common.{◌≡◌, cond, List, [], ◌∷◌, ◌++◌, ma
 use mathlib.Core.List.{map-append}
 use Rattle.faults.specs.declared.ChartFault.{ChartFault}
 use Rattle.lines.specs.declared.shape.Number.{Number}
-use Rattle.lines.specs.Grammar.{Tree, empty, step, trans, hold, enter}
+use Rattle.lines.specs.Grammar.{Tree, step, trans, hold}
 use Rattle.chart.specs.Said.{Holding, steps_of, transitions_of, uses_of, lists_of, holdings_of, all}
 use Rattle.chart.specs.Checks.{has, same_number, undeclared_step, declarations, undeclared, uses, repetitions, lists, holdings, faults_in, chart_faults}
 use Rattle.chart.proofs.Members.{In, in_left, in_right, in_either}
 
 -- ---- each number's faults, of one line and of the lines behind it
 steps_more : (before : List Number) (t : Tree) (ns : List Number) → declarations before (steps_of t ++ ns) ≡ declarations before (steps_of t) ++ declarations (steps_of t ++ before) ns
-steps_more before empty ns = refl
 steps_more before (step n b) ns = simp (map-append, append-nil)
-steps_more before (trans n fs ts c us) ns = refl
-steps_more before (hold n q) ns = refl
-steps_more before (enter n a q) ns = refl
+steps_more before _ ns = refl
 
 transitions_more : (before : List Number) (t : Tree) (ns : List Number) → declarations before (transitions_of t ++ ns) ≡ declarations before (transitions_of t) ++ declarations (transitions_of t ++ before) ns
-transitions_more before empty ns = refl
-transitions_more before (step n b) ns = refl
 transitions_more before (trans n fs ts c us) ns = simp (map-append, append-nil)
-transitions_more before (hold n q) ns = refl
-transitions_more before (enter n a q) ns = refl
+transitions_more before _ ns = refl
 
 holdings_more : (before : List Holding) (t : Tree) (hs : List Holding) → holdings before (holdings_of t ++ hs) ≡ holdings before (holdings_of t) ++ holdings (holdings_of t ++ before) hs
-holdings_more before empty hs = refl
-holdings_more before (step n b) hs = refl
-holdings_more before (trans n fs ts c us) hs = refl
 holdings_more before (hold n q) hs = simp (map-append, append-nil)
-holdings_more before (enter n a q) hs = refl
+holdings_more before _ hs = refl
 
 undeclared_more : (declared ns ms : List Number) → undeclared declared (ns ++ ms) ≡ undeclared declared ns ++ undeclared declared ms
 undeclared_more declared [] ms = refl
 undeclared_more declared (n ∷ ns) ms =
     ap (λ l. cond (has same_number n declared) [] (n ∷ []) ++ l) (undeclared_more declared ns ms) ∙ sym (append_assoc (cond (has same_number n declared) [] (n ∷ [])) (undeclared declared ns) (undeclared declared ms))
 
-pub uses_more : (declared ns ms : List Number) → uses declared (ns ++ ms) ≡ uses declared ns ++ uses declared ms
+uses_more : (declared ns ms : List Number) → uses declared (ns ++ ms) ≡ uses declared ns ++ uses declared ms
 uses_more declared ns ms = ap (map undeclared_step) (undeclared_more declared ns ms) ∙ simp map-append
 
 lists_more : (ns ms : List (List Number)) → lists (ns ++ ms) ≡ lists ns ++ lists ms

@@ -1,7 +1,7 @@
+pub mod EmptySets
 pub mod Members
 pub mod Least
 pub mod Gathered
 pub mod FirstFaults
-pub mod NumberSets
 pub mod Noting
 pub mod LinePasses

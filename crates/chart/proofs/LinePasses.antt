@@ -1,90 +1,34 @@
 -- The two passes over the lines of a text. Assumes nothing.
-use Rattle.std.proofs.Common.{◌≡◌, ℕ, ◌<◌, ◌≤◌, Bool, false, ◌||◌, eqb, List, [], ◌∷◌, ◌++◌, length, Ok, Err, Option, Result, sym, refl, ap, ◌∙◌, subst, arith}
+use Rattle.std.proofs.Common.{◌≡◌, ℕ, ◌<◌, Bool, ◌||◌, List, [], ◌∷◌, ◌++◌, length, Ok, Err, Option, Result, sym, refl, ap, ◌∙◌, subst, arith}
 use Rattle.faults.specs.declared.TextFault.{TextFault}
 use Rattle.faults.specs.declared.ChartFault.{ChartFault}
 use Rattle.text.specs.declared.token.Token.{Token}
 use Rattle.lines.specs.declared.shape.Number.{Number}
-use Rattle.lines.specs.declared.shape.Line.{Line}
-use Rattle.lines.specs.declared.shape.Line.TheVariants.{Empty, Step, Trans, Hold, Enter}
-use Rattle.lines.specs.Grammar.{Tree, FitsLine, step}
+use Rattle.lines.specs.Grammar.{Tree}
 use Rattle.lines.specs.Scan.{scan, start, reads, fails}
-use Rattle.lines.specs.Parts.{Shows}
 use Rattle.lines.specs.Text.{read_lines, between, put}
 use Rattle.lines.proofs.WholeText.{first_line, first_fails}
 use Rattle.chart.specs.Said.{steps_of, is_initial, all}
 use Rattle.chart.specs.Checks.{has, same_number, noted, faults_in, chart_faults, has_initial, first_of, judged, checked, on_lines}
-use Rattle.chart.specs.Sets.{member, Knows}
+use Rattle.chart.specs.declared.set.NumberSet.{NumberSet}
 use Rattle.chart.specs.First.{FirstFault}
-use Rattle.chart.specs.Seen.{SmallLine, Declared}
+use Rattle.chart.specs.Seen.{Declared}
 use Rattle.chart.proofs.Least.{noted_append}
 use Rattle.chart.proofs.FirstFaults.{checked_law}
 
--- a line that fits has small numbers
-pub shows_small : (l : Line) (t : Tree) → Shows l t → FitsLine t → SmallLine l
-shows_small Empty t e h = tt
-shows_small (Step n b) t e h = subst FitsLine e h
-shows_small (Trans x) t e h = (subst FitsLine e.3 h).0
-shows_small (Hold n q) t e h = subst FitsLine e h
-shows_small (Enter n a q) t e h = tt
-
 -- ---- the first pass: one line more at the end
-grouped : (a b c : Bool) → (a || (b || c)) ≡ ((a || b) || c)
-grouped a b c = grind arith
-
-swapped : (a b c : Bool) → (a || (b || c)) ≡ (b || (a || c))
-swapped a b c = grind arith
-
-alone : (b : Bool) → (b || false) ≡ b
-alone b = grind arith
-
 has_append : (m : Number) (ns ms : List Number) → has same_number m (ns ++ ms) ≡ (has same_number m ns || has same_number m ms)
 has_append m [] ms = refl
-has_append m (n ∷ ns) ms = ap (λ b. same_number m n || b) (has_append m ns ms) ∙ grouped (same_number m n) (has same_number m ns) (has same_number m ms)
+has_append m (n ∷ ns) ms = rw (has_append m ns ms) (grind arith)
 
-has_push : (m : Number) (ls : List Tree) (t : Tree) → has same_number m (all steps_of (ls ++ t ∷ [])) ≡ (has same_number m (steps_of t) || has same_number m (all steps_of ls))
+pub has_push : (m : Number) (ls : List Tree) (t : Tree) → has same_number m (all steps_of (ls ++ t ∷ [])) ≡ (has same_number m (steps_of t) || has same_number m (all steps_of ls))
 has_push m [] t = has_append m (steps_of t) []
 has_push m (l ∷ ls) t =
-    let L = has same_number m (steps_of l) in
-    let T = has same_number m (steps_of t) in
-    let R = has same_number m (all steps_of ls) in
-    has_append m (steps_of l) (all steps_of (ls ++ t ∷ [])) ∙
-    (ap (λ b. L || b) (has_push m ls t) ∙ (swapped L T R ∙ ap (λ b. T || b) (sym (has_append m (steps_of l) (all steps_of ls)))))
+    rw (has_append m (steps_of l) (all steps_of (ls ++ t ∷ [])), has_append m (steps_of l) (all steps_of ls), has_push m ls t) (grind arith)
 
 pub initial_push : (ls : List Tree) (t : Tree) → has_initial (ls ++ t ∷ []) ≡ (has_initial ls || is_initial t)
-initial_push [] t = alone (is_initial t)
-initial_push (l ∷ ls) t = ap (λ b. is_initial l || b) (initial_push ls t) ∙ grouped (is_initial l) (has_initial ls) (is_initial t)
-
--- a line that declares a step
-pub knows_step : (old new : List ℕ) (ls : List Tree) (t : Tree) (n : Number) (b : Bool) → t ≡ step n b → ((m : ℕ) → member m new ≡ (eqb m n.value || member m old)) → Knows old (all steps_of ls) → (b ≡ is_initial t) × Knows new (all steps_of (ls ++ t ∷ []))
-knows_step old new ls t n b e added knows = (
-  sym (ap is_initial e),
-  λ m. added m.value ∙
-      (ap (λ x. eqb m.value n.value || x) (knows m) ∙
-      (ap (λ x. x || has same_number m (all steps_of ls)) (sym (alone (eqb m.value n.value)) ∙ ap (λ z. has same_number m (steps_of z)) (sym e)) ∙ sym (has_push m ls t))),
-)
-
--- a line that declares none
-abbrev Silent : Tree → Type 0
-Silent t = (false ≡ is_initial t) × (steps_of t ≡ [])
-
-silent : (l : Line) (t : Tree) → Shows l t → ((n : Number) (b : Bool) → l ≡ Step n b → ⊥) → Silent t
-silent Empty t e h = (ap is_initial (sym e), ap steps_of e)
-silent (Step n b) t e h = absurd (h n b refl)
-silent (Trans x) t e h = (ap is_initial (sym e.3), ap steps_of e.3)
-silent (Hold n q) t e h = (ap is_initial (sym e), ap steps_of e)
-silent (Enter n a q) t e h = (ap is_initial (sym e), ap steps_of e)
-
-pub knows_other : (old : List ℕ) (ls : List Tree) (l : Line) (t : Tree) → Shows l t → ((n : Number) (b : Bool) → l ≡ Step n b → ⊥) → Knows old (all steps_of ls) → (false ≡ is_initial t) × Knows old (all steps_of (ls ++ t ∷ []))
-knows_other old ls l t e h knows =
-    let s = silent l t e h in
-    (s.0, λ m. knows m ∙ (ap (λ ns. has same_number m ns || has same_number m (all steps_of ls)) (sym s.1) ∙ sym (has_push m ls t)))
-
--- some numbers have the values of a set
-pub knows_some : (set : List ℕ) → (ns : List Number) × Knows set ns
-knows_some [] = ([], λ n. refl)
-knows_some (v ∷ vs) =
-    let rest = knows_some vs in
-    (record { value = v; place = 0 } ∷ rest.0, λ n. ap (λ b. eqb n.value v || b) (rest.1 n))
+initial_push [] t = grind arith
+initial_push (l ∷ ls) t = rw (initial_push ls t) (grind arith)
 
 -- ---- the second pass: what is left, behind the lines before, gives the whole
 abbrev pub faults_from : List Number → List Tree → Option ChartFault → List Tree → Option ChartFault
@@ -102,28 +46,22 @@ fault_more ns before t first last rest after e whole some is n h =
 pub fault_fails : {A : Type 0} (f : List Tree → A) (rest : List Token) (e : ℕ) (x : TextFault) (whole : Result A TextFault) → 0 < length rest → scan rest start e ≡ fails x → on_lines f (read_lines rest between e) ≡ whole → Err x ≡ whole
 fault_fails f rest e x whole some is h = sym (ap (on_lines f) (first_fails rest e x some is)) ∙ h
 
-pub fault_all : {A : Type 0} (f : List Tree → A) (rest : List Token) (e : ℕ) (whole : Result A TextFault) → length rest ≤ 0 → on_lines f (read_lines rest between e) ≡ whole → Ok (f []) ≡ whole
-fault_all f [] e whole none h = h
-fault_all f (t ∷ ts) e whole none h = absurd (omega arith)
-
 -- ---- the answer of both passes
 abbrev pub faults_by : List Number → List Tree → Option ChartFault
 faults_by ns ls = first_of (chart_faults ns [] ls)
 
-pub answered : (text : Result (List Tree) TextFault) (initial : Bool) (declared : List ℕ) (e : ℕ) (o : Option ChartFault) (d : Declared text initial declared) → Ok o ≡ on_lines (faults_by (all steps_of d.lines)) text → judged o initial e ≡ checked text e
-answered text initial declared e o d h =
-    let F = faults_by (all steps_of d.lines) in
-    let at : ◌≡◌ {A = Result (Option ChartFault) TextFault} (Ok o) (Ok (F d.lines)) = h ∙ ap (on_lines F) d.read in
-    let same : o ≡ F d.lines = cc in
-    ap (λ x. judged x initial e) same ∙ (ap (λ b. judged (F d.lines) b e) d.one ∙ sym (ap (λ t. checked t e) d.read))
-
-pub never_fails : (text : Result (List Tree) TextFault) (initial : Bool) (declared : List ℕ) (x : TextFault) (d : Declared text initial declared) → Err x ≡ on_lines (faults_by (all steps_of d.lines)) text → ⊥
+-- a text that was read once is read again
+pub never_fails : (text : Result (List Tree) TextFault) (initial : Bool) (declared : NumberSet) (x : TextFault) (d : Declared text initial declared) → Err x ≡ on_lines (faults_by (all steps_of d.lines)) text → ⊥
 never_fails text initial declared x d h =
     let F = faults_by (all steps_of d.lines) in
     let at : ◌≡◌ {A = Result (Option ChartFault) TextFault} (Err x) (Ok (F d.lines)) = h ∙ ap (on_lines F) d.read in
-    let z : ◌≡◌ {A = ℕ} 0 1 = cc in
-    omega arith
+    cc
 
--- an answer that the checks give obeys the law
-pub lawful : (text : Result (List Tree) TextFault) (e : ℕ) (r : Result (Unit {0}) ChartFault) → r ≡ checked text e → FirstFault text e r
-lawful text e r h = subst (FirstFault text e) (sym h) (checked_law text e)
+-- what is answered is what the checks give, and it obeys the law
+pub answered : (text : Result (List Tree) TextFault) (initial : Bool) (declared : NumberSet) (e : ℕ) (o : Option ChartFault) (d : Declared text initial declared) → Ok o ≡ on_lines (faults_by (all steps_of d.lines)) text → (r : Result (Unit {0}) ChartFault) → r ≡ judged o initial e → (r ≡ checked text e) × FirstFault text e r
+answered text initial declared e o d h r is =
+    let F = faults_by (all steps_of d.lines) in
+    let at : ◌≡◌ {A = Result (Option ChartFault) TextFault} (Ok o) (Ok (F d.lines)) = h ∙ ap (on_lines F) d.read in
+    let same : o ≡ F d.lines = cc in
+    let all : r ≡ checked text e = is ∙ (ap (λ x. judged x initial e) same ∙ (ap (λ b. judged (F d.lines) b e) d.one ∙ sym (ap (λ t. checked t e) d.read))) in
+    (all, subst (FirstFault text e) (sym all) (checked_law text e))

@@ -1,5 +1,6 @@
 pub mod Said
 pub mod Checks
 pub mod Sets
+pub mod Findings
 pub mod Seen
 pub mod First

@@ -25,9 +25,11 @@ impl Checker {
     pub fn new(heap: Global) -> Result<Checker, AllocError>
         ensures { IfOk result (λ c. Remembers c.seen []) }
     {
-        let declared = NumberSet::new(heap)?;
         let seen = Seen::new(heap)?;
-        Ok(Checker { declared, seen })
+        Ok(Checker {
+            declared: NumberSet::new(),
+            seen,
+        })
     }
 
     /// Whether the lines of a text describe a chart, or the first fault; the text ends at `end`, and `words` is for scratch.

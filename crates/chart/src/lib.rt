@@ -2,9 +2,8 @@
 #![tactic(auto)]
 
 pub mod checker;
-mod note;
+mod findings;
 mod passes;
 mod seen;
 mod set;
 mod table;
-mod tokens;

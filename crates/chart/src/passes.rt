@@ -7,8 +7,9 @@ ghost use Rattle.lines.specs.Text.{read_lines, between};
 ghost use Rattle.chart.specs.Said.{steps_of, is_initial, all};
 ghost use Rattle.chart.specs.Checks.{chart_faults, first_of, on_lines};
 ghost use Rattle.chart.specs.Sets.{Knows};
-ghost use Rattle.chart.specs.Seen.{SmallLine, Declared};
+ghost use Rattle.chart.specs.Seen.{Declared};
 
+use crate::findings::Findings;
 use crate::seen::Seen;
 use crate::set::NumberSet;
 use faults::{ChartFault, TextFault};
@@ -19,14 +20,15 @@ use words::list::WordList;
 
 // Counts the step of a line as declared, and says whether it is initial.
 fn declare(declared: &mut NumberSet, line: Line) -> bool
-    requires { SmallLine line }
-    ensures { (tree : Tree) (lines : List Tree) → Shows line.entry tree → Knows declared.old.numbers.items (all steps_of lines) → (result ≡ is_initial tree) × Knows declared.new.numbers.items (all steps_of (lines ++ tree ∷ [])) }
+    ensures { (tree : Tree) (lines : List Tree) → Shows line.entry tree → Knows declared.old (all steps_of lines) → (result ≡ is_initial tree) × Knows declared.new (all steps_of (lines ++ tree ∷ [])) }
 {
-    if let Line::Step(n, initial) = line {
-        declared.add(n.value);
-        return initial;
+    match line {
+        Line::Step(n, initial) => {
+            declared.add(n.value);
+            initial
+        }
+        _ => false,
     }
-    false
 }
 
 // Finds the steps that the lines declare, and whether one is initial.
@@ -36,12 +38,12 @@ pub(crate) fn find_declared(
     end: usize,
     words: &mut WordList,
 ) -> Result<bool, TextFault>
-    ensures { MatchResult result (λ initial. Declared (read_lines tokens.now between end) initial declared.new.numbers.items) (λ f. read_lines tokens.now between end ≡ Refused f) }
+    ensures { MatchResult result (λ initial. Declared (read_lines tokens.now between end) initial declared.new) (λ f. read_lines tokens.now between end ≡ Refused f) }
 {
     declared.clear();
     let mut any_initial = false;
     let mut rest = tokens;
-    while rest.len() > 0 {
+    while !rest.is_empty() {
         let (line, after) = read_line(rest, end, words)?;
         any_initial |= declare(declared, line);
         rest = after;
@@ -57,15 +59,18 @@ pub(crate) fn find_fault(
     end: usize,
     words: &mut WordList,
 ) -> Result<Option<ChartFault>, TextFault>
-    ensures { (ns : List TheNumber) → Knows declared.now.numbers.items ns → result ≡ on_lines (λ ls. first_of (chart_faults ns [] ls)) (read_lines tokens.now between end) }
+    ensures { (ns : List TheNumber) → Knows declared.now ns → result ≡ on_lines (λ ls. first_of (chart_faults ns [] ls)) (read_lines tokens.now between end) }
 {
     seen.clear();
-    let mut first = None;
+    let mut findings = Findings {
+        first: None,
+        declared,
+    };
     let mut rest = tokens;
-    while rest.len() > 0 {
+    while !rest.is_empty() {
         let (line, after) = read_line(rest, end, words)?;
-        seen.note_line(&mut first, declared, line);
+        seen.note_line(&mut findings, line);
         rest = after;
     }
-    Ok(first)
+    Ok(findings.first)
 }

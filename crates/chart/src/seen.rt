@@ -1,26 +1,23 @@
 //! What the lines before have declared and held, and the faults of a line behind them.
 ghost use Rattle.std.specs.Prelude.{List, [], IfOk};
-ghost use Rattle.lines.specs.declared.shape.Number.{Number as TheNumber};
 ghost use Rattle.lines.specs.declared.shape.Line.TheVariants.{Trans as OfTransition};
 ghost use Rattle.lines.specs.Grammar.{Tree};
 ghost use Rattle.lines.specs.Parts.{Shows};
-ghost use Rattle.chart.specs.Sets.{Knows};
-ghost use Rattle.chart.specs.Seen.{SmallLine, Remembers, NotesLine};
+ghost use Rattle.chart.specs.Seen.{Remembers, NotesLine};
 
-use crate::note::{note_declaration, note_holding, note_use};
+use crate::findings::Findings;
 use crate::set::NumberSet;
 use crate::table::HeldTable;
-use crate::tokens::{note_list, note_named, note_uses};
 use faults::ChartFault;
 use lines::shape::{Line, Transition};
+use lines::steps::{number_of, step_named};
 use std::alloc::{AllocError, Global};
 
-/// The numbers that the lines declare, what they hold, and the numbers of the list that is being read.
+/// The numbers that the lines declare, and what they hold.
 #[derive(Drop)]
 pub struct Seen {
     pub(crate) steps: NumberSet,
     pub(crate) transitions: NumberSet,
-    pub(crate) listed: NumberSet,
     pub(crate) held: HeldTable,
 }
 
@@ -29,14 +26,10 @@ impl Seen {
     pub(crate) fn new(heap: Global) -> Result<Seen, AllocError>
         ensures { IfOk result (λ s. Remembers s []) }
     {
-        let steps = NumberSet::new(heap)?;
-        let transitions = NumberSet::new(heap)?;
-        let listed = NumberSet::new(heap)?;
         let held = HeldTable::new(heap)?;
         Ok(Seen {
-            steps,
-            transitions,
-            listed,
+            steps: NumberSet::new(),
+            transitions: NumberSet::new(),
             held,
         })
     }
@@ -50,42 +43,39 @@ impl Seen {
         self.held.clear();
     }
 
-    fn note_transition(
-        &mut self,
-        first: &mut Option<ChartFault>,
-        declared: &NumberSet,
-        t: Transition,
-    )
-        requires { SmallLine (OfTransition t) }
-        ensures { (tree : Tree) (ns : List TheNumber) (before : List Tree) → Shows (OfTransition t.entry) tree → Knows declared.now.numbers.items ns → Remembers self.old before → NotesLine ns before tree first.old first.new self.new }
+    fn note_transition(&mut self, findings: &mut Findings, t: Transition)
+        ensures { (tree : Tree) (before : List Tree) → Shows (OfTransition t.entry) tree → Remembers self.old before → NotesLine before tree findings.old findings.new self.new }
     {
-        note_declaration(first, &mut self.transitions, t.number);
-        note_uses(first, declared, t.from);
-        note_uses(first, declared, t.to);
-        note_named(first, declared, t.condition);
-        note_list(first, &mut self.listed, t.from);
-        note_list(first, &mut self.listed, t.to);
+        let n = t.number;
+        findings.note_if(
+            self.transitions.add(n.value),
+            ChartFault::DeclaredTwice(n.place),
+        );
+        findings.note_uses(t.from, number_of);
+        findings.note_uses(t.to, number_of);
+        findings.note_uses(t.condition, step_named);
+        findings.note_list(t.from);
+        findings.note_list(t.to);
     }
 
     /// Notes the faults 7 to 10 of a line, and remembers it.
-    pub(crate) fn note_line(
-        &mut self,
-        first: &mut Option<ChartFault>,
-        declared: &NumberSet,
-        line: Line,
-    )
-        requires { SmallLine line }
-        ensures { (tree : Tree) (ns : List TheNumber) (before : List Tree) → Shows line.entry tree → Knows declared.now.numbers.items ns → Remembers self.old before → NotesLine ns before tree first.old first.new self.new }
+    pub(crate) fn note_line(&mut self, findings: &mut Findings, line: Line)
+        ensures { (tree : Tree) (before : List Tree) → Shows line.entry tree → Remembers self.old before → NotesLine before tree findings.old findings.new self.new }
     {
         match line {
             Line::Empty => {}
-            Line::Step(n, _) => note_declaration(first, &mut self.steps, n),
-            Line::Trans(t) => self.note_transition(first, declared, t),
-            Line::Hold(n, q) => {
-                note_use(first, declared, n);
-                note_holding(first, &mut self.held, n, q);
+            Line::Step(n, _) => {
+                findings.note_if(self.steps.add(n.value), ChartFault::DeclaredTwice(n.place));
             }
-            Line::Enter(n, _, _) => note_use(first, declared, n),
+            Line::Trans(t) => self.note_transition(findings, t),
+            Line::Hold(n, q) => {
+                findings.note_use(n);
+                findings.note_if(
+                    self.held.mark(n.value, q.value),
+                    ChartFault::HeldTwice(q.place),
+                );
+            }
+            Line::Enter(n, _, _) => findings.note_use(n),
         }
     }
 }

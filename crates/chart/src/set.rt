@@ -1,51 +1,44 @@
-//! A set of numbers up to 63.
-ghost use Rattle.std.specs.Prelude.{◌≡◌, ℕ, ◌≤◌, true, ◌||◌, [], IfOk, vec_capacity, ◌==◌};
-ghost use Rattle.chart.specs.Sets.{member, distinct};
+//! A set of numbers.
+ghost use Rattle.std.specs.Prelude.{◌≡◌, ℕ, false, ◌||◌, ◌==◌};
+ghost use Rattle.chart.specs.Sets.{holds};
 
-use search::earliest;
-use std::alloc::{AllocError, Global};
-
-/// The numbers, each once, with room for all that there are.
-#[derive(Drop)]
+/// A mark for each number, whether it is in the set.
+#[derive(Clone, Copy)]
 pub struct NumberSet {
-    pub(crate) numbers: Vec<u8>,
-    ghost apart: { distinct numbers.items ≡ true },
-    ghost room: { 64 ≤ vec_capacity numbers },
+    pub(crate) marks: [bool; 256],
 }
 
 impl NumberSet {
     /// An empty set.
-    pub(crate) fn new(heap: Global) -> Result<NumberSet, AllocError>
-        ensures { IfOk result (λ s. s.numbers.items ≡ []) }
+    pub(crate) fn new() -> NumberSet
+        ensures { (n : ℕ) → holds result n ≡ false }
     {
-        let numbers = Vec::with_capacity(heap, 64)?;
-        Ok(NumberSet { numbers })
+        NumberSet {
+            marks: [false; 256],
+        }
     }
 
     /// Takes all numbers out.
     pub(crate) fn clear(&mut self)
-        ensures { self.new.numbers.items ≡ [] }
+        ensures { (n : ℕ) → holds self.new n ≡ false }
     {
-        self.numbers.clear();
+        *self = NumberSet::new();
     }
 
     /// Whether the number is in the set.
     pub(crate) fn has(&self, n: u8) -> bool
-        ensures { result ≡ member n self.now.numbers.items }
+        ensures { result ≡ holds self.now n }
     {
-        earliest(&self.numbers, &n).is_some()
+        self.marks[usize::from(n)]
     }
 
     /// Puts a number in, and says whether it was there.
     pub(crate) fn add(&mut self, n: u8) -> bool
-        requires { n ≤ 63 }
-        ensures was_there { result ≡ member n self.old.numbers.items }
-        ensures numbers { (m : ℕ) → member m self.new.numbers.items ≡ (m == n || member m self.old.numbers.items) }
+        ensures was_there { result ≡ holds self.old n }
+        ensures numbers { (m : ℕ) → holds self.new m ≡ (m == n || holds self.old m) }
     {
-        if self.has(n) {
-            return true;
-        }
-        self.numbers.push_reserved(n);
-        false
+        let before = self.has(n);
+        self.marks[usize::from(n)] = true;
+        before
     }
 }

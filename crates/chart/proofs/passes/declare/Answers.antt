@@ -1,12 +1,9 @@
-use Rattle.std.proofs.Common.{vec_items, subst}
+use Rattle.std.proofs.Common.{refl, arith, subst}
 use Rattle.lines.specs.Parts.{Shows}
-use Rattle.chart.proofs.LinePasses.{knows_step, knows_other}
+use Rattle.chart.proofs.LinePasses.{has_push}
 use Rattle.chart.proofs.passes.declare.Goals as goal
 
 pub returns-in-Step : goal.returns-in-Step
-returns-in-Step c = λ t ls shown knows.
-    knows_step (vec_items c.args.declared.now.numbers) (vec_items c.add.new.self.numbers) ls t c.in-Step.n c.in-Step.initial
-    (subst (λ l. Shows l t) c.in-Step.is shown) c.add.ensures.numbers knows
-
-pub returns : goal.returns
-returns c = λ t ls shown knows. knows_other (vec_items c.args.declared.now.numbers) ls c.args.line t shown c.in_default.not-Step knows
+returns-in-Step c = λ tree lines shown knows.
+    let is = subst (λ l. Shows l tree) c.in-Step.is shown in
+    rw is (refl, λ n. rw (has_push n lines _, c.add.ensures.numbers n.value, knows n) (grind arith))

@@ -1,4 +1,4 @@
-use Rattle.std.proofs.Common.{◌≡◌, List, length, vec_items}
+use Rattle.std.proofs.Common.{◌≡◌, List, length}
 use Rattle.lines.specs.Grammar.{Tree}
 use Rattle.lines.proofs.WholeText.{Left}
 use Rattle.chart.specs.Said.{steps_of, all}
@@ -8,7 +8,7 @@ use Rattle.chart.proofs.passes.find_declared.Given as goal
 
 abbrev pub invariant-loop-rest : goal.invariant-loop-rest
 invariant-loop-rest l =
-    (ls : List Tree) × (Left l.tokens l.end ls l.rest) × (l.any_initial ≡ has_initial ls) × Knows (vec_items l.declared.numbers) (all steps_of ls)
+    (ls : List Tree) × (Left l.tokens l.end ls l.rest) × (l.any_initial ≡ has_initial ls) × Knows l.declared (all steps_of ls)
 
 abbrev pub decreases-loop-rest : goal.decreases-loop-rest
 decreases-loop-rest l = length l.rest

@@ -1,4 +1,4 @@
-use Rattle.std.proofs.Common.{◌≡◌, List, [], length, vec_items}
+use Rattle.std.proofs.Common.{◌≡◌, List, [], length}
 use Rattle.lines.specs.declared.shape.Number.{Number}
 use Rattle.lines.specs.Grammar.{Tree}
 use Rattle.lines.specs.Text.{read_lines, between}
@@ -9,9 +9,9 @@ use Rattle.chart.proofs.passes.find_fault.Given as goal
 
 abbrev pub invariant-loop-rest : goal.invariant-loop-rest
 invariant-loop-rest l =
-    (before : List Tree) × (Remembers l.seen before) ×
-    ((ns : List Number) → Knows (vec_items l.declared.numbers) ns →
-    on_lines (λ ls. noted l.first (chart_faults ns before ls)) (read_lines l.rest between l.end) ≡ on_lines (λ ls. first_of (chart_faults ns [] ls)) (read_lines l.tokens between l.end))
+    (before : List Tree) × (Remembers l.seen before) × (l.findings.declared.now ≡ l.declared) ×
+    ((ns : List Number) → Knows l.declared ns →
+    on_lines (λ ls. noted l.findings.first (chart_faults ns before ls)) (read_lines l.rest between l.end) ≡ on_lines (λ ls. first_of (chart_faults ns [] ls)) (read_lines l.tokens between l.end))
 
 abbrev pub decreases-loop-rest : goal.decreases-loop-rest
 decreases-loop-rest l = length l.rest

@@ -1,0 +1,20 @@
+-- Sets that have no number. Assumes nothing.
+use Rattle.std.proofs.Common.{◌≡◌, ℕ, false, get_or, [], replicate, sym, refl, subst, ⊎_elim, arith}
+use Rattle.std.proofs.lemmas.Bool.{cases_lt}
+use Rattle.std.proofs.lemmas.List.{get_or-replicate, get_or_past, length-replicate}
+use Rattle.chart.specs.declared.set.NumberSet.{NumberSet}
+use Rattle.chart.specs.Sets.{holds, nothing, marked}
+
+-- an entry of equal ones, or the default
+like_default : {A : Type 0} (P : A → Type 0) (n k : ℕ) (x d : A) → P x → P d → P (get_or (replicate n x) k d)
+like_default P n k x d p q =
+    ⊎_elim
+    (λ lt. subst P (sym (get_or-replicate n k x d lt)) p)
+    (λ le. subst P (sym (get_or_past (replicate n x) k d (rw length-replicate le))) q)
+    (cases_lt k n)
+
+pub no_mark : (n k : ℕ) → get_or (replicate n false) k false ≡ false
+no_mark n k = like_default (λ b. b ≡ false) n k false false refl refl
+
+pub none_held : (n : ℕ) (set : NumberSet) → ((m : ℕ) → holds set m ≡ false) → (s q : ℕ) → marked (replicate n set) s q ≡ false
+none_held n set none s q = like_default (λ t. holds t q ≡ false) n s set nothing (none q) (get_or_past [] q false (omega arith))
