@@ -1,9 +1,9 @@
--- Sets that have no number. Assumes nothing.
+-- Tables that have no mark. Assumes nothing.
 use Rattle.std.proofs.Common.{◌≡◌, ℕ, false, get_or, [], replicate, sym, refl, subst, ⊎_elim, arith}
 use Rattle.std.proofs.lemmas.Bool.{cases_lt}
 use Rattle.std.proofs.lemmas.List.{get_or-replicate, get_or_past, length-replicate}
-use Rattle.chart.specs.declared.set.NumberSet.{NumberSet}
-use Rattle.chart.specs.Sets.{holds, nothing, marked}
+use Rattle.chart.specs.declared.table.Row.{Row}
+use Rattle.chart.specs.Sets.{is_marked, no_row, marked}
 
 -- an entry of equal ones, or the default
 like_default : {A : Type 0} (P : A → Type 0) (n k : ℕ) (x d : A) → P x → P d → P (get_or (replicate n x) k d)
@@ -16,5 +16,5 @@ like_default P n k x d p q =
 pub no_mark : (n k : ℕ) → get_or (replicate n false) k false ≡ false
 no_mark n k = like_default (λ b. b ≡ false) n k false false refl refl
 
-pub none_held : (n : ℕ) (set : NumberSet) → ((m : ℕ) → holds set m ≡ false) → (s q : ℕ) → marked (replicate n set) s q ≡ false
-none_held n set none s q = like_default (λ t. holds t q ≡ false) n s set nothing (none q) (get_or_past [] q false (omega arith))
+pub none_held : (n : ℕ) (row : Row) → ((m : ℕ) → is_marked row m ≡ false) → (s q : ℕ) → marked (replicate n row) s q ≡ false
+none_held n row none s q = like_default (λ t. is_marked t q ≡ false) n s row no_row (none q) (get_or_past [] q false (omega arith))

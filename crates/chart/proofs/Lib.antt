@@ -1,4 +1,5 @@
 pub mod EmptySets
+pub mod NumberSets
 pub mod Members
 pub mod Least
 pub mod Gathered

@@ -1,5 +1,6 @@
 pub mod Said
 pub mod Checks
+pub mod Numbers
 pub mod Sets
 pub mod Findings
 pub mod Seen

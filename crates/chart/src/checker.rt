@@ -8,9 +8,9 @@ ghost use Rattle.chart.specs.Seen.{Remembers};
 use crate::passes::{find_declared, find_fault};
 use crate::seen::Seen;
 use crate::set::NumberSet;
+use conditions::rest::Rest;
 use faults::ChartFault;
 use std::alloc::{AllocError, Global};
-use text::token::Token;
 use words::list::WordList;
 
 /// Room for the checks of any text; what a check leaves in it does not matter to the next.
@@ -25,28 +25,21 @@ impl Checker {
     pub fn new(heap: Global) -> Result<Checker, AllocError>
         ensures { IfOk result (λ c. Remembers c.seen []) }
     {
+        let declared = NumberSet::new(heap)?;
         let seen = Seen::new(heap)?;
-        Ok(Checker {
-            declared: NumberSet::new(),
-            seen,
-        })
+        Ok(Checker { declared, seen })
     }
 
-    /// Whether the lines of a text describe a chart, or the first fault; the text ends at `end`, and `words` is for scratch.
-    pub fn check(
-        &mut self,
-        tokens: &[Token],
-        end: usize,
-        words: &mut WordList,
-    ) -> Result<(), ChartFault>
-        ensures checked { result ≡ checked (read_lines tokens.now between end) end }
-        ensures first_fault { FirstFault (read_lines tokens.now between end) end result }
+    /// Whether the lines of a text describe a chart, or the first fault; `words` is for scratch.
+    pub fn check(&mut self, text: Rest<'_>, words: &mut WordList) -> Result<(), ChartFault>
+        ensures checked { result ≡ checked (read_lines text.entry.tokens.now between text.entry.end) text.entry.end }
+        ensures first_fault { FirstFault (read_lines text.entry.tokens.now between text.entry.end) text.entry.end result }
     {
-        let initial = find_declared(&mut self.declared, tokens, end, words)?;
-        match find_fault(&mut self.seen, &self.declared, tokens, end, words)? {
+        let initial = find_declared(&mut self.declared, text, words)?;
+        match find_fault(&mut self.seen, &self.declared, text, words)? {
             Some(fault) => Err(fault),
             None if initial => Ok(()),
-            None => Err(ChartFault::NoInitialStep(end)),
+            None => Err(ChartFault::NoInitialStep(text.end)),
         }
     }
 }

@@ -70,14 +70,14 @@ impl Findings<'_> {
         }
     }
 
-    /// 9: notes the steps of a list that stand in it already.
-    pub(crate) fn note_list(&mut self, list: &[Token])
+    /// 9: notes the steps of a list that stand in it already; `listed` is for those met so far.
+    pub(crate) fn note_list(&mut self, listed: &mut NumberSet, list: &[Token])
         ensures { self.new ≡ noting self.old (repetitions (numbers_in list.now)) }
     {
-        let mut listed = NumberSet::new();
+        listed.clear();
         for t in list {
             if let Some(n) = number_of(*t) {
-                self.note_listing(&mut listed, n);
+                self.note_listing(listed, n);
             }
         }
     }

@@ -12,10 +12,10 @@ ghost use Rattle.chart.specs.Seen.{Declared};
 use crate::findings::Findings;
 use crate::seen::Seen;
 use crate::set::NumberSet;
+use conditions::rest::Rest;
 use faults::{ChartFault, TextFault};
-use lines::line::read_line;
+use lines::line::next_line;
 use lines::shape::Line;
-use text::token::Token;
 use words::list::WordList;
 
 // Counts the step of a line as declared, and says whether it is initial.
@@ -34,17 +34,15 @@ fn declare(declared: &mut NumberSet, line: Line) -> bool
 // Finds the steps that the lines declare, and whether one is initial.
 pub(crate) fn find_declared(
     declared: &mut NumberSet,
-    tokens: &[Token],
-    end: usize,
+    text: Rest<'_>,
     words: &mut WordList,
 ) -> Result<bool, TextFault>
-    ensures { MatchResult result (λ initial. Declared (read_lines tokens.now between end) initial declared.new) (λ f. read_lines tokens.now between end ≡ Refused f) }
+    ensures { MatchResult result (λ initial. Declared (read_lines text.entry.tokens.now between text.entry.end) initial declared.new) (λ f. read_lines text.entry.tokens.now between text.entry.end ≡ Refused f) }
 {
     declared.clear();
     let mut any_initial = false;
-    let mut rest = tokens;
-    while !rest.is_empty() {
-        let (line, after) = read_line(rest, end, words)?;
+    let mut rest = text;
+    while let Some((line, after)) = next_line(rest, words)? {
         any_initial |= declare(declared, line);
         rest = after;
     }
@@ -55,20 +53,18 @@ pub(crate) fn find_declared(
 pub(crate) fn find_fault(
     seen: &mut Seen,
     declared: &NumberSet,
-    tokens: &[Token],
-    end: usize,
+    text: Rest<'_>,
     words: &mut WordList,
 ) -> Result<Option<ChartFault>, TextFault>
-    ensures { (ns : List TheNumber) → Knows declared.now ns → result ≡ on_lines (λ ls. first_of (chart_faults ns [] ls)) (read_lines tokens.now between end) }
+    ensures { (ns : List TheNumber) → Knows declared.now ns → result ≡ on_lines (λ ls. first_of (chart_faults ns [] ls)) (read_lines text.entry.tokens.now between text.entry.end) }
 {
     seen.clear();
     let mut findings = Findings {
         first: None,
         declared,
     };
-    let mut rest = tokens;
-    while !rest.is_empty() {
-        let (line, after) = read_line(rest, end, words)?;
+    let mut rest = text;
+    while let Some((line, after)) = next_line(rest, words)? {
         seen.note_line(&mut findings, line);
         rest = after;
     }

@@ -13,11 +13,12 @@ use lines::shape::{Line, Transition};
 use lines::steps::{number_of, step_named};
 use std::alloc::{AllocError, Global};
 
-/// The numbers that the lines declare, and what they hold.
+/// The numbers that the lines declare, what they hold, and the numbers of the list that is being read.
 #[derive(Drop)]
 pub struct Seen {
     pub(crate) steps: NumberSet,
     pub(crate) transitions: NumberSet,
+    pub(crate) listed: NumberSet,
     pub(crate) held: HeldTable,
 }
 
@@ -26,10 +27,14 @@ impl Seen {
     pub(crate) fn new(heap: Global) -> Result<Seen, AllocError>
         ensures { IfOk result (λ s. Remembers s []) }
     {
+        let steps = NumberSet::new(heap)?;
+        let transitions = NumberSet::new(heap)?;
+        let listed = NumberSet::new(heap)?;
         let held = HeldTable::new(heap)?;
         Ok(Seen {
-            steps: NumberSet::new(),
-            transitions: NumberSet::new(),
+            steps,
+            transitions,
+            listed,
             held,
         })
     }
@@ -54,8 +59,8 @@ impl Seen {
         findings.note_uses(t.from, number_of);
         findings.note_uses(t.to, number_of);
         findings.note_uses(t.condition, step_named);
-        findings.note_list(t.from);
-        findings.note_list(t.to);
+        findings.note_list(&mut self.listed, t.from);
+        findings.note_list(&mut self.listed, t.to);
     }
 
     /// Notes the faults 7 to 10 of a line, and remembers it.

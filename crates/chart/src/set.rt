@@ -1,35 +1,41 @@
 //! A set of numbers.
-ghost use Rattle.std.specs.Prelude.{◌≡◌, ℕ, false, ◌||◌, ◌==◌};
-ghost use Rattle.chart.specs.Sets.{holds};
+ghost use Rattle.std.specs.Prelude.{◌≡◌, ℕ, true, false, ◌||◌, IfOk, ◌==◌};
+ghost use Rattle.chart.specs.Numbers.{distinct};
 
-/// A mark for each number, whether it is in the set.
-#[derive(Clone, Copy)]
+use room::Reserved;
+use search::earliest;
+use std::alloc::{AllocError, Global};
+
+/// The numbers, each once, with room for all that there are.
+#[derive(Drop)]
 pub struct NumberSet {
-    pub(crate) marks: [bool; 256],
+    pub(crate) numbers: Reserved<u8, 256>,
+    ghost apart: { distinct numbers ≡ true },
 }
 
 impl NumberSet {
+    ghost use Rattle.chart.specs.Sets.{holds};
+
     /// An empty set.
-    pub(crate) fn new() -> NumberSet
-        ensures { (n : ℕ) → holds result n ≡ false }
+    pub(crate) fn new(heap: Global) -> Result<NumberSet, AllocError>
+        ensures { IfOk result (λ s. (n : ℕ) → holds s n ≡ false) }
     {
-        NumberSet {
-            marks: [false; 256],
-        }
+        let numbers = Reserved::new(heap)?;
+        Ok(NumberSet { numbers })
     }
 
     /// Takes all numbers out.
     pub(crate) fn clear(&mut self)
         ensures { (n : ℕ) → holds self.new n ≡ false }
     {
-        *self = NumberSet::new();
+        self.numbers.clear();
     }
 
     /// Whether the number is in the set.
     pub(crate) fn has(&self, n: u8) -> bool
         ensures { result ≡ holds self.now n }
     {
-        self.marks[usize::from(n)]
+        earliest(self.numbers.as_slice(), &n).is_some()
     }
 
     /// Puts a number in, and says whether it was there.
@@ -37,8 +43,10 @@ impl NumberSet {
         ensures was_there { result ≡ holds self.old n }
         ensures numbers { (m : ℕ) → holds self.new m ≡ (m == n || holds self.old m) }
     {
-        let before = self.has(n);
-        self.marks[usize::from(n)] = true;
-        before
+        if self.has(n) {
+            return true;
+        }
+        self.numbers.push(n).unwrap();
+        false
     }
 }

@@ -1,14 +1,40 @@
 //! A table of steps and the outputs that they hold.
 ghost use Rattle.std.specs.Prelude.{◌≡◌, ℕ, false, ◌&&◌, ◌||◌, IfOk, vec_len, ◌==◌};
-ghost use Rattle.chart.specs.Sets.{marked};
+ghost use Rattle.chart.specs.Sets.{marked, is_marked};
 
-use crate::set::NumberSet;
 use std::alloc::{AllocError, Global};
 
-/// For each step the set of its outputs.
+/// A mark for each output.
+#[derive(Clone, Copy)]
+pub struct Row {
+    pub(crate) marks: [bool; 256],
+}
+
+impl Row {
+    // A row with no mark.
+    fn new() -> Row
+        ensures { (q : ℕ) → is_marked result q ≡ false }
+    {
+        Row {
+            marks: [false; 256],
+        }
+    }
+
+    // Marks an output, and says whether it was marked.
+    fn mark(&mut self, output: u8) -> bool
+        ensures was_marked { result ≡ is_marked self.old output }
+        ensures marks { (q : ℕ) → is_marked self.new q ≡ (q == output || is_marked self.old q) }
+    {
+        let before = self.marks[usize::from(output)];
+        self.marks[usize::from(output)] = true;
+        before
+    }
+}
+
+/// For each step the outputs that it holds.
 #[derive(Drop)]
 pub struct HeldTable {
-    pub(crate) rows: Vec<NumberSet>,
+    pub(crate) rows: Vec<Row>,
     ghost whole: { vec_len rows ≡ 256 },
 }
 
@@ -17,7 +43,7 @@ impl HeldTable {
     pub(crate) fn new(heap: Global) -> Result<HeldTable, AllocError>
         ensures { IfOk result (λ t. (s q : ℕ) → marked t.rows.items s q ≡ false) }
     {
-        let rows = vec![in heap; NumberSet::new(); 256]?;
+        let rows = vec![in heap; Row::new(); 256]?;
         Ok(HeldTable { rows })
     }
 
@@ -25,7 +51,7 @@ impl HeldTable {
     pub(crate) fn clear(&mut self)
         ensures { (s q : ℕ) → marked self.new.rows.items s q ≡ false }
     {
-        self.rows.fill(NumberSet::new());
+        self.rows.fill(Row::new());
     }
 
     /// Marks that the step holds the output, and says whether it was marked.
@@ -33,6 +59,6 @@ impl HeldTable {
         ensures was_marked { result ≡ marked self.old.rows.items step output }
         ensures marks { (s q : ℕ) → marked self.new.rows.items s q ≡ ((s == step && q == output) || marked self.old.rows.items s q) }
     {
-        self.rows[usize::from(step)].add(output)
+        self.rows[usize::from(step)].mark(output)
     }
 }

@@ -6,9 +6,10 @@ use Rattle.chart.specs.Checks.{has_initial}
 use Rattle.chart.specs.Sets.{Knows}
 use Rattle.chart.proofs.passes.find_declared.Given as goal
 
-abbrev pub invariant-loop-rest : goal.invariant-loop-rest
-invariant-loop-rest l =
-    (ls : List Tree) × (Left l.tokens l.end ls l.rest) × (l.any_initial ≡ has_initial ls) × Knows l.declared (all steps_of ls)
+abbrev pub invariant-loop-line : goal.invariant-loop-line
+invariant-loop-line l =
+    (l.rest.end ≡ l.text.end) ×
+    ((ls : List Tree) × (Left l.text.tokens.now l.text.end ls l.rest.tokens.now) × (l.any_initial ≡ has_initial ls) × Knows l.declared (all steps_of ls))
 
-abbrev pub decreases-loop-rest : goal.decreases-loop-rest
-decreases-loop-rest l = length l.rest
+abbrev pub decreases-loop-line : goal.decreases-loop-line
+decreases-loop-line l = length l.rest.tokens.now

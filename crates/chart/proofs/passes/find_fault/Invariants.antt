@@ -7,11 +7,12 @@ use Rattle.chart.specs.Sets.{Knows}
 use Rattle.chart.specs.Seen.{Remembers}
 use Rattle.chart.proofs.passes.find_fault.Given as goal
 
-abbrev pub invariant-loop-rest : goal.invariant-loop-rest
-invariant-loop-rest l =
-    (before : List Tree) × (Remembers l.seen before) × (l.findings.declared.now ≡ l.declared) ×
+abbrev pub invariant-loop-line : goal.invariant-loop-line
+invariant-loop-line l =
+    (l.rest.end ≡ l.text.end) ×
+    ((before : List Tree) × (Remembers l.seen before) × (l.findings.declared.now ≡ l.declared) ×
     ((ns : List Number) → Knows l.declared ns →
-    on_lines (λ ls. noted l.findings.first (chart_faults ns before ls)) (read_lines l.rest between l.end) ≡ on_lines (λ ls. first_of (chart_faults ns [] ls)) (read_lines l.tokens between l.end))
+    on_lines (λ ls. noted l.findings.first (chart_faults ns before ls)) (read_lines l.rest.tokens.now between l.text.end) ≡ on_lines (λ ls. first_of (chart_faults ns [] ls)) (read_lines l.text.tokens.now between l.text.end)))
 
-abbrev pub decreases-loop-rest : goal.decreases-loop-rest
-decreases-loop-rest l = length l.rest
+abbrev pub decreases-loop-line : goal.decreases-loop-line
+decreases-loop-line l = length l.rest.tokens.now

@@ -12,17 +12,17 @@ returns-in_err-fault c =
 pub returns-in-Some : goal.returns-in-Some
 returns-in-Some c =
     let d = c.in_ok-initial.ensures in
-    let p = answered _ _ _ c.args.end _ d (c.in_ok-fault.ensures (all steps_of d.lines) d.steps) (Err c.in-Some.fault) (rw c.in-Some.is refl) in
+    let p = answered _ _ _ c.args.text.end _ d (c.in_ok-fault.ensures (all steps_of d.lines) d.steps) (Err c.in-Some.fault) (rw c.in-Some.is refl) in
     record { checked = p.0; first_fault = p.1 }
 
 pub returns-in-None : goal.returns-in-None
 returns-in-None c =
     let d = c.in_ok-initial.ensures in
-    let p = answered _ _ _ c.args.end _ d (c.in_ok-fault.ensures (all steps_of d.lines) d.steps) (Ok tt) (rw (c.in-None.is, c.if-initial.true) refl) in
+    let p = answered _ _ _ c.args.text.end _ d (c.in_ok-fault.ensures (all steps_of d.lines) d.steps) (Ok tt) (rw (c.in-None.is, c.if-initial.true) refl) in
     record { checked = p.0; first_fault = p.1 }
 
 pub returns-in-None-2 : goal.returns-in-None-2
 returns-in-None-2 c =
     let d = c.in_ok-initial.ensures in
-    let p = answered _ _ _ c.args.end _ d (c.in_ok-fault.ensures (all steps_of d.lines) d.steps) (Err (NoInitialStep c.args.end)) (rw (c.in-None.is, c.if-initial.false) refl) in
+    let p = answered _ _ _ c.args.text.end _ d (c.in_ok-fault.ensures (all steps_of d.lines) d.steps) (Err (NoInitialStep c.args.text.end)) (rw (c.in-None.is, c.if-initial.false) refl) in
     record { checked = p.0; first_fault = p.1 }
