@@ -1,5 +1,6 @@
 -- The file of a draft. Assumes nothing.
 use Rattle.std.proofs.Common.{◌≡◌, ℕ, ◌<◌, Bool, true, false, cond, ltb, List, length, Ok, Err, Result, sym, refl, ap, ◌∙◌, subst, arith}
+use Rattle.std.specs.Prelude.{MatchResult, IfOk, IsErrAnd}
 use Rattle.std.proofs.lemmas.List.{length-map}
 use Rattle.std.proofs.lemmas.Bool.{lt-ltb}
 use Rattle.faults.specs.declared.CodeFault.{CodeFault}
@@ -68,3 +69,9 @@ sound_program ls f =
 pub loads : (ls : List Tree) (c : Contents) (bs : List ℕ) → Holds ls c → AllFit ls → (SoundCode (code_for c) → code_of bs ≡ Ok (code_for c)) → code_of bs ≡ Ok (program_of ls)
 loads ls c bs h f back =
     back (subst SoundCode (sym (same_code ls c h)) (sound_program ls f)) ∙ ap (λ code. Ok code) (same_code ls c h)
+
+-- what holds of an answer's value holds of it where the error is another
+pub as_kept : {A E F : Type 0} (Q : E → F → Type 0) (P : A → Type 0) (w : Result A E) (r : Result A F) → MatchResult w (λ x. r ≡ Ok x) (λ e. IsErrAnd r (Q e)) → IfOk w P → IfOk r P
+as_kept Q P (Ok x) r h p = subst (λ r. IfOk r P) (sym h) p
+as_kept Q P (Err e) (Ok x) h p = absurd h
+as_kept Q P (Err e) (Err f) h p = tt
