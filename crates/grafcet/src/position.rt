@@ -3,7 +3,7 @@ ghost use Rattle.std.specs.Prelude.{◌≡◌, ◌+◌, ◌^◌, ◌<◌, ◌≤
 ghost use Rattle.grafcet.specs.Positions.{behind, position_at};
 
 /// A line and a column, both from 1 on; columns are bytes.
-#[derive(Clone, Copy)]
+#[derive(Clone, Copy, PartialEq, Eq, Debug)]
 pub struct Position {
     pub line: usize,
     pub column: usize,
@@ -36,9 +36,9 @@ pub fn position_at(text: &[u8], place: usize) -> Position
     ensures { result ≡ position_at text.now place }
 {
     let mut position = Position { line: 1, column: 1 };
-    let before = &text[0..place.min(text.len())];
-    for byte in before {
-        position = position.after(*byte);
+    let before = &text[..place.min(text.len())];
+    for &byte in before {
+        position = position.after(byte);
     }
     position
 }
