@@ -28,6 +28,7 @@ enum Command<'a> {
 }
 
 // The first argument is the program's own name.
+#[tactic(auto, using(crate::proofs::Texts::texts))]
 fn command_of(args: &[String]) -> Option<Command<'_>>
     ensures { Asks (map string_bytes args.now) result }
 {
@@ -46,6 +47,7 @@ struct Compilation<'a> {
 }
 
 // The command `compile`, which stands apart from those of `command_of`.
+#[tactic(auto, using(crate::proofs::Texts::texts))]
 fn compilation_of(args: &[String]) -> Option<Compilation<'_>>
     ensures { AsksToCompile (map string_bytes args.now) result }
 {
