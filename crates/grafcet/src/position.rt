@@ -35,10 +35,8 @@ impl Position {
 pub fn position_at(text: &[u8], place: usize) -> Position
     ensures { result ≡ position_at text.now place }
 {
-    let mut position = Position { line: 1, column: 1 };
-    let before = &text[..place.min(text.len())];
-    for &byte in before {
-        position = position.after(byte);
-    }
-    position
+    let start = Position { line: 1, column: 1 };
+    text.iter()
+        .take(place)
+        .fold(start, |position, byte| position.after(*byte))
 }
