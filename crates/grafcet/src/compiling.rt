@@ -3,7 +3,7 @@ use crate::cause::cause_of;
 use crate::excerpt::excerpt;
 use crate::failure::Failure;
 use crate::files::read_file;
-use crate::position::position_at;
+use crate::position::{Position, position_at};
 use compile::compiler::Compiler;
 use faults::Fault;
 use std::alloc::AllocError;
@@ -20,9 +20,7 @@ pub fn print_compiled(rt: &HostRuntime, length: usize) -> io::Result<()> {
 
 // Tells on standard error where a text is at fault.
 fn report(rt: &HostRuntime, path: &str, text: &[u8], fault: Fault) -> Result<(), AllocError> {
-    let position = position_at(text, fault.place());
-    let line = position.line;
-    let column = position.column;
+    let Position { line, column } = position_at(text, fault.place());
     let cause = cause_of(fault);
     let shown = excerpt(rt.alloc(), text, fault.place())?;
     let _ = eprintln!(rt; "{path}:{line}:{column}: {cause}\n{shown}");
@@ -33,18 +31,16 @@ pub fn run(rt: &HostRuntime, chart: &str, out: &str) -> Result<(), Failure> {
     let text = read_file(rt, chart)?;
     let mut compiler = Compiler::new(rt.alloc())?;
     let mut buffer = vec![in rt.alloc(); 0u8; LONGEST]?;
-    match compiler.compile(text.as_slice(), buffer.as_mut_slice()) {
+    match compiler.compile(&text, &mut buffer) {
         Ok(length) => {
-            if let Err(error) = fs::write(rt, out, &buffer.as_slice()[0..length]) {
-                return Err(Failure::Unsaved(error));
-            }
+            fs::write(rt, out, &buffer[..length]).map_err(Failure::Unsaved)?;
             print_compiled(rt, length)?;
             Ok(())
         }
         Err(e) => {
             let fault = Fault::from(e);
             println!(rt; "refused {fault}")?;
-            report(rt, chart, text.as_slice(), fault)?;
+            report(rt, chart, &text, fault)?;
             Err(Failure::Reported)
         }
     }

@@ -7,7 +7,7 @@ use faults::FileFault;
 use std::alloc::{AllocError, Global};
 use std::fmt;
 
-#[derive(Clone, Copy)]
+#[derive(Clone, Copy, PartialEq, Eq, Debug)]
 pub enum Damage {
     /// Only the first bytes are left.
     Cut(usize),
@@ -50,8 +50,5 @@ pub fn try_damaged(
     ensures { IfOk result (λ o. Tried (damaged_by damage file.now) program.old program.new o) }
 {
     let copy = damaged(heap, file, damage)?;
-    match program.load(copy.as_slice()) {
-        Ok(()) => Ok(None),
-        Err(fault) => Ok(Some(fault)),
-    }
+    Ok(program.load(&copy).err())
 }

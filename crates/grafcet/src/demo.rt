@@ -46,9 +46,7 @@ pub fn run(rt: &HostRuntime) -> Result<(), Failure> {
     println!(rt; "The chart:\n{TEXT}")?;
     println!(rt; "\nIts code file, {size} bytes, loaded into a program:")?;
     let mut program = Program::new(rt.alloc())?;
-    if let Err(e) = program.load(FILE) {
-        return Err(Failure::Refused(Fault::from(e)));
-    }
+    program.load(FILE)?;
     print_loaded(rt, &program)?;
     print_words(rt, &program)?;
     try_damages(rt, &mut program)

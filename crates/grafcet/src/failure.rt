@@ -1,13 +1,14 @@
 //! Why a command fails.
 ghost use Rattle.std.specs.Prelude.{◌≡◌};
-ghost use Rattle.grafcet.specs.declared.failure.Failure.TheVariants.{Unwritable as IsUnwritable, OutOfMemory as IsOutOfMemory};
+ghost use Rattle.grafcet.specs.declared.failure.Failure.TheVariants.{Refused as IsRefused, Unwritable as IsUnwritable, OutOfMemory as IsOutOfMemory};
+ghost use Rattle.faults.specs.declared.Fault.TheVariants.{File as OfFile};
 
 use crate::cause::cause_of;
-use faults::Fault;
+use faults::{Fault, FileFault};
 use std::alloc::AllocError;
 use std::{fmt, io};
 
-#[derive(Drop)]
+#[derive(Debug, Drop)]
 pub enum Failure {
     /// The arguments cannot be read.
     Arguments(io::Error),
@@ -61,5 +62,13 @@ impl From<io::Error> for Failure {
 
     fn from(e: io::Error) -> Failure {
         Failure::Unwritable(e)
+    }
+}
+
+impl From<FileFault> for Failure {
+    ghost from_gives = { λ e r. r ≡ IsRefused (OfFile e) };
+
+    fn from(e: FileFault) -> Failure {
+        Failure::Refused(Fault::from(e))
     }
 }

@@ -28,9 +28,8 @@ fn print_part(rt: &HostRuntime, program: &Program, part: Part, start: usize) -> 
     let end = place_of(start, words.len());
     let length = end.saturating_sub(start);
     println!(rt; "{part:<7}  offset {start:>5}  length {length:>5}")?;
-    for (index, word) in words.iter().enumerate() {
+    for (index, &word) in words.iter().enumerate() {
         let place = place_of(start, index);
-        let word = *word;
         let Some(instruction) = decode(part, word) else {
             unreachable()
         };

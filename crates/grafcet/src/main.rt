@@ -21,13 +21,14 @@ use std::env;
 use std::process::ExitCode;
 
 /// What the arguments ask for.
-#[derive(Drop)]
+#[derive(Clone, Copy, PartialEq, Eq, Debug)]
 enum Command<'a> {
     Demo,
     Load(&'a str),
 }
 
 // The first argument is the program's own name.
+#[tactic(auto, using(crate::proofs::Texts::texts))]
 fn command_of(args: &[String]) -> Option<Command<'_>>
     ensures { Asks (map string_bytes args.now) result }
 {
@@ -39,13 +40,14 @@ fn command_of(args: &[String]) -> Option<Command<'_>>
 }
 
 /// A chart to compile: its file, and that of its code.
-#[derive(Drop)]
+#[derive(Clone, Copy, PartialEq, Eq, Debug)]
 struct Compilation<'a> {
     chart: &'a str,
     out: &'a str,
 }
 
 // The command `compile`, which stands apart from those of `command_of`.
+#[tactic(auto, using(crate::proofs::Texts::texts))]
 fn compilation_of(args: &[String]) -> Option<Compilation<'_>>
     ensures { AsksToCompile (map string_bytes args.now) result }
 {
@@ -71,32 +73,26 @@ fn told(rt: &HostRuntime, subject: &str, res: Result<(), Failure>) -> Result<(),
     res
 }
 
-fn perform_other(rt: &HostRuntime, args: &[String]) -> Result<(), Failure> {
-    match compilation_of(args) {
-        Some(files) => told(rt, files.chart, compiling::run(rt, files.chart, files.out)),
+fn perform(rt: &HostRuntime, args: &[String]) -> Result<(), Failure> {
+    if let Some(Compilation { chart, out }) = compilation_of(args) {
+        return told(rt, chart, compiling::run(rt, chart, out));
+    }
+    match command_of(args) {
+        Some(Command::Demo) => told(rt, "grafcet", demo::run(rt)),
+        Some(Command::Load(path)) => told(rt, path, load::run(rt, path)),
         None => told(rt, "usage", Err(Failure::Usage)),
     }
 }
 
-fn perform(rt: &HostRuntime, args: &[String]) -> Result<(), Failure> {
-    match command_of(args) {
-        Some(Command::Demo) => told(rt, "grafcet", demo::run(rt)),
-        Some(Command::Load(path)) => told(rt, path, load::run(rt, path)),
-        None => perform_other(rt, args),
-    }
-}
-
 fn arguments(rt: &HostRuntime) -> Result<Vec<String>, Failure> {
-    match env::args(rt) {
-        Ok(args) => Ok(args.collect(rt.alloc())?),
-        Err(error) => Err(Failure::Arguments(error)),
-    }
+    let args = env::args(rt).map_err(Failure::Arguments)?;
+    Ok(args.collect(rt.alloc())?)
 }
 
 // A failure ends the program with status 1.
 fn main(rt: HostRuntime) -> ExitCode {
     let outcome = match arguments(&rt) {
-        Ok(args) => perform(&rt, args.as_slice()),
+        Ok(args) => perform(&rt, &args),
         Err(failure) => told(&rt, "grafcet", Err(failure)),
     };
     match outcome {

@@ -3,7 +3,7 @@ ghost use Rattle.std.specs.Prelude.{◌≡◌, ◌+◌, ◌^◌, ◌<◌, ◌≤
 ghost use Rattle.grafcet.specs.Positions.{behind, position_at};
 
 /// A line and a column, both from 1 on; columns are bytes.
-#[derive(Clone, Copy)]
+#[derive(Clone, Copy, PartialEq, Eq, Debug)]
 pub struct Position {
     pub line: usize,
     pub column: usize,
@@ -35,10 +35,8 @@ impl Position {
 pub fn position_at(text: &[u8], place: usize) -> Position
     ensures { result ≡ position_at text.now place }
 {
-    let mut position = Position { line: 1, column: 1 };
-    let before = &text[0..place.min(text.len())];
-    for byte in before {
-        position = position.after(*byte);
-    }
-    position
+    let start = Position { line: 1, column: 1 };
+    text.iter()
+        .take(place)
+        .fold(start, |position, byte| position.after(*byte))
 }

@@ -1,9 +1,11 @@
-//! Tests: chart texts and code files at each limit and one past it, and a fault on its way up.
+//! Tests: chart texts and code files at each limit and one past it, a fault on its way up, and a list's room.
 #![tactic(auto)]
 
 #[cfg(test)]
 mod files;
 pub mod ladder;
+#[cfg(test)]
+mod room_tests;
 #[cfg(test)]
 mod tests;
 #[cfg(test)]

@@ -9,7 +9,7 @@ use std::test::Fail;
 use words::instruction::Part;
 
 // A file by its parts, and the fault that it should have.
-#[derive(Clone, Copy)]
+#[derive(Clone, Copy, PartialEq, Eq, Debug)]
 struct Case<'a> {
     clear: &'a [u32],
     enter: &'a [u32],
@@ -39,36 +39,17 @@ const fn unbalanced(place: usize) -> Option<FileFault> {
     Some(FileFault::Unbalanced(place))
 }
 
-fn top(fault: Option<FileFault>) -> Option<Fault> {
-    match fault {
-        Some(f) => Some(Fault::File(f)),
-        None => None,
-    }
-}
-
-fn judge(
-    rt: &impl Abort,
-    heap: Global,
-    clear: &[u32],
-    enter: &[u32],
-    hold: &[u32],
-    fault: Option<FileFault>,
-) -> Result<(), Fail> {
-    let mut program = Program::new(heap)?;
-    let file = file_of(heap, clear, enter, hold)?;
-    assert_eq!(rt; fault_of(&mut program, &file), top(fault));
-    Ok(())
-}
-
-fn judge_parts(rt: &impl Abort, heap: Global, cases: &[Case]) -> Result<(), Fail> {
-    for c in cases {
-        judge(rt, heap, c.clear, c.enter, c.hold, c.fault)?;
+fn judge(rt: &impl Abort, heap: Global, cases: &[Case]) -> Result<(), Fail> {
+    for case in cases {
+        let mut program = Program::new(heap)?;
+        let file = file_of(heap, case.clear, case.enter, case.hold)?;
+        assert_eq!(rt; fault_of(&mut program, &file), case.fault.map(Fault::File));
     }
     Ok(())
 }
 
 // A file by its four pairs and the initial steps, ten numbers in all, and the section whose pair is at fault.
-#[derive(Clone, Copy)]
+#[derive(Clone, Copy, PartialEq, Eq, Debug)]
 struct Head {
     numbers: [u32; 10],
     words: usize,
@@ -77,13 +58,11 @@ struct Head {
 
 fn judge_heads(rt: &impl Abort, heap: Global, heads: &[Head]) -> Result<(), Fail> {
     let mut program = Program::new(heap)?;
-    for h in heads {
-        let words = times(heap, h.words, NOT)?;
-        let file = with_head(heap, &h.numbers, &words)?;
-        assert_eq!(rt;
-            fault_of(&mut program, &file),
-            Some(Fault::File(FileFault::BadPair(h.section)))
-        );
+    for head in heads {
+        let words = times(heap, head.words, NOT)?;
+        let file = with_head(heap, &head.numbers, &words)?;
+        let fault = Fault::File(FileFault::BadPair(head.section));
+        assert_eq!(rt; fault_of(&mut program, &file), Some(fault));
     }
     Ok(())
 }
@@ -113,7 +92,10 @@ fn a_refused_file_leaves_the_program(rt: HostRuntime) -> Result<(), Fail> {
     let good = file_of(heap, &[NOT], &[], &[LD_X0, S_H0])?;
     let other = file_of(heap, &[LD_X0, ST_T0], &[], &[ST_T0])?;
     assert_eq!(rt; fault_of(&mut program, &good), None);
-    assert_eq!(rt; fault_of(&mut program, &other), top(unlawful(52)));
+    assert_eq!(rt;
+        fault_of(&mut program, &other),
+        unlawful(52).map(Fault::File)
+    );
     assert_eq!(rt; program.words(Part::Clear).len(), 1);
     assert_eq!(rt; program.words(Part::Hold).len(), 2);
     Ok(())
@@ -209,14 +191,17 @@ fn words_at_the_limit(rt: HostRuntime) -> Result<(), Fail> {
     let half = times(heap, 2048, NOT)?;
     let unread = times(heap, 4097, 0)?;
     let crowded = Some(FileFault::TooManyWords);
-    judge(&rt, heap, &most, &[], &[], None)?;
-    judge(&rt, heap, &[], &most, &[], None)?;
-    judge(&rt, heap, &[], &[], &most, None)?;
-    judge(&rt, heap, &half, &half, &[], None)?;
-    judge(&rt, heap, &[], &more, &[], crowded)?;
-    judge(&rt, heap, &half, &half, &[NOT], crowded)?;
-    // counted before any word is read
-    judge(&rt, heap, &unread, &[], &[], crowded)
+    let cases = [
+        parts(&most, &[], &[], None),
+        parts(&[], &most, &[], None),
+        parts(&[], &[], &most, None),
+        parts(&half, &half, &[], None),
+        parts(&[], &more, &[], crowded),
+        parts(&half, &half, &[NOT], crowded),
+        // counted before any word is read
+        parts(&unread, &[], &[], crowded),
+    ];
+    judge(&rt, heap, &cases)
 }
 
 #[test]
@@ -224,19 +209,15 @@ fn brackets_at_the_limit(rt: HostRuntime) -> Result<(), Fail> {
     let heap = rt.alloc();
     let deep = nested(heap, 17, AND_OPEN)?;
     let deeper = nested(heap, 18, OR_OPEN)?;
-    judge(&rt, heap, &deep, &deep, &deep, None)?;
-    judge(&rt, heap, &deeper, &[], &[], unbalanced(112))?;
-    judge(&rt, heap, &[NOT], &[], &deeper, unbalanced(116))?;
-    judge(&rt, heap, &[], &[CLOSE], &[], unbalanced(44))?;
-    judge(
-        &rt,
-        heap,
-        &[OR_OPEN, CLOSE, CLOSE],
-        &[],
-        &[],
-        unbalanced(52),
-    )?;
-    judge(&rt, heap, &[], &[], &[AND_OPEN], unbalanced(48))
+    let cases = [
+        parts(&deep, &deep, &deep, None),
+        parts(&deeper, &[], &[], unbalanced(112)),
+        parts(&[NOT], &[], &deeper, unbalanced(116)),
+        parts(&[], &[CLOSE], &[], unbalanced(44)),
+        parts(&[OR_OPEN, CLOSE, CLOSE], &[], &[], unbalanced(52)),
+        parts(&[], &[], &[AND_OPEN], unbalanced(48)),
+    ];
+    judge(&rt, heap, &cases)
 }
 
 #[test]
@@ -252,7 +233,7 @@ fn an_end_and_a_word_at_one_place(rt: HostRuntime) -> Result<(), Fail> {
         parts(&[AND_OPEN], &[CLOSE], &[], unbalanced(48)),
         parts(&[], &[AND_OPEN], &[0], unlawful(48)),
     ];
-    judge_parts(&rt, rt.alloc(), &cases)
+    judge(&rt, rt.alloc(), &cases)
 }
 
 #[test]
@@ -264,7 +245,7 @@ fn the_earlier_word_first(rt: HostRuntime) -> Result<(), Fail> {
         parts(&[NOT], &[ST_T0], &[S_Q0], unlawful(52)),
         parts(&[NOT], &[S_Q0, CLOSE], &[S_Q0], unbalanced(52)),
     ];
-    judge_parts(&rt, rt.alloc(), &cases)
+    judge(&rt, rt.alloc(), &cases)
 }
 
 #[test]
@@ -275,17 +256,9 @@ fn lawful_words_counted(rt: HostRuntime) {
 }
 
 #[test]
-fn a_text_fault_goes_up_unchanged(rt: HostRuntime) -> Result<(), Fail> {
-    match climb(TextFault::EighthBracket(77)) {
-        Ok(()) => {
-            assert!(rt; false);
-            Ok(())
-        },
-        Err(fault) => {
-            assert_eq!(rt; fault.layer(), Layer::Text);
-            assert_eq!(rt; fault.number(), 5);
-            assert_eq!(rt; fault.place(), 77);
-            Ok(())
-        }
-    }
+fn a_text_fault_goes_up_unchanged(rt: HostRuntime) {
+    let fault = climb(TextFault::EighthBracket(77)).unwrap_err();
+    assert_eq!(rt; fault.layer(), Layer::Text);
+    assert_eq!(rt; fault.number(), 5);
+    assert_eq!(rt; fault.place(), 77);
 }

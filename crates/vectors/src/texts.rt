@@ -6,7 +6,7 @@ use std::process::Abort;
 use std::test::Fail;
 
 /// A text, and the fault that it should have.
-#[derive(Clone, Copy)]
+#[derive(Clone, Copy, PartialEq, Eq, Debug)]
 pub(crate) struct Case<'a> {
     pub text: &'a str,
     pub fault: Option<CodeFault>,
@@ -33,10 +33,7 @@ pub(crate) const fn in_chart(text: &str, fault: ChartFault) -> Case<'_> {
 /// The fault of a text, or None where it is accepted.
 pub(crate) fn fault_of(compiler: &mut Compiler, text: &[u8]) -> Option<CodeFault> {
     let mut buffer = [0u8; 16428];
-    match compiler.compile(text, &mut buffer) {
-        Ok(_) => None,
-        Err(fault) => Some(fault),
-    }
+    compiler.compile(text, &mut buffer).err()
 }
 
 /// Compiles each text with one compiler.

@@ -1,27 +1,22 @@
-use Rattle.std.proofs.Common.{◌≡◌, ℕ, ◌-◌, ◌≤◌, min, List, length, take, fold, sym, ap, ◌∙◌, inl, inr, arith}
-use Rattle.std.proofs.lemmas.Bool.{cases_lt}
-use Rattle.std.proofs.lemmas.List.Sums.{fold_more}
-use Rattle.std.proofs.lemmas.List.{take_all}
-use Rattle.grafcet.specs.Positions.{behind}
+use Rattle.std.proofs.Common.{ℕ, ◌+◌, ◌^◌, ◌<◌, ◌≤◌, List, length, length-append, ap, ◌∙◌, rules, arith, Bor}
+use Rattle.std.proofs.lemmas.Fn.{serves_by}
+use Rattle.std.proofs.lemmas.Iterator.{YieldsList-from_slice, YieldsList-from_take}
+use Rattle.std.proofs.lemmas.Iterator.Adapters.{at_most_from_yields_List}
+use Rattle.std.proofs.lemmas.List.{length-take}
+use Rattle.grafcet.specs.declared.position.Position.{Position}
 use Rattle.grafcet.proofs.position.position_at.Goals as goal
 
-pub loop-byte-preserved : goal.loop-byte-preserved
-loop-byte-preserved c =
-    let xs = take (c.min.result - 0) c.args.text.now in
-    let moved = fold_more behind (record { line = 1; column = 1 }) xs c.loop-byte.byte-index 0 c.loop-byte-test.true in
-    let here = c.after-position.ensures.behind in
-    (cc, omega arith, omega arith)
-
--- all of what is before a place is what the text has there
-whole : (text : List ℕ) (place n i : ℕ) → n ≡ min place (length text) → length (take n text) ≤ i → take i (take n text) ≡ take place text
-whole text place n i e h =
-    take_all i (take n text) h
-    ∙ elim (cases_lt place (length text)) [
-      | inl k ↦ let same : n ≡ place = omega arith in ap (λ m. take m text) same
-      | inr k ↦ let same : length text ≤ n = omega arith in take_all n text same ∙ sym (take_all place text k)
-    ]
-
-pub returns : goal.returns
-returns c =
-    c.loop-byte.invariant.0
-    ∙ ap (fold behind (record { line = 1; column = 1 })) (whole c.args.text.now c.args.place (c.min.result - 0) c.loop-byte.byte-index (omega arith) c.loop-byte-test.false)
+-- After n bytes the line and the column are n + 1 at most, and no text is long enough for them to overflow.
+pub fold-requires-clause-callable : goal.fold-requires-clause-callable
+fold-requires-clause-callable c =
+    let rest = ap (λ x. x.rest.now) c.take.ensures.source ∙ c.iter.ensures.rest in
+    let near = YieldsList-from_take {s = c.take.result} c.args.place (YieldsList-from_slice c.args.text.now rest) c.take.ensures.count in
+    let most = at_most_from_yields_List {n = length c.args.text.now} near (omega (arith, length-take c.args.place c.args.text.now)) in
+    serves_by _ (λ (xs : List (Bor ℕ)) (q : Unit {0} × Position). (q.1.line ≤ length xs + 1) × (q.1.column ≤ length xs + 1))
+    (λ xs q x v j r. search (rules, length-append))
+    _ _ c.take.result _ (omega arith, omega arith)
+    (λ xs t q x u y s j.
+    let m = most.runs xs t y in
+    let k : q.1.line + 1 < 2 ^ 64 = omega arith in
+    let l : q.1.column + 1 < 2 ^ 64 = omega arith in
+    search rules)
