@@ -26,9 +26,6 @@ on x e t rest s h = ap (λ s. follow s (λ x. scan rest x e) (t ∷ rest)) h
 pub ahead : (k : TokenKind) {ts rest : List Token} (x y : State) (e : ℕ) → Heads k ts rest → ((at : ℕ) → step x at k ≡ goes y) → scan ts x e ≡ scan rest y e
 ahead k x y e h s = ap (λ l. scan l x e) h.2 ∙ on x e h.0 _ _ (ap (λ k. step x h.0.place k) h.1 ∙ s _)
 
-pub numbered : (at n : ℕ) (x : State) → n ≤ 63 → automaton.numbered at n x ≡ goes x
-numbered at n x h = ap (λ b. cond b (goes x) (fault (NumberTooLarge at))) (le-leb n 63 h)
-
 headed : {k : TokenKind} {ts rest : List Token} → Heads k ts rest → length rest + 1 ≡ length ts
 headed h = omega (arith, ap length h.2)
 

@@ -93,9 +93,6 @@ left_less ts rest after e ls l h first = h ∙ ap (λ z. before ls z) first ∙ 
 pub left_fails : (ts rest : List Token) (e : ℕ) (ls : List Tree) (f : TextFault) → Left ts e ls rest → read_lines rest between e ≡ Err f → read_lines ts between e ≡ Err f
 left_fails ts rest e ls f h failing = h ∙ ap (λ z. before ls z) failing
 
-pub left_none : (ts rest : List Token) (e : ℕ) (ls : List Tree) → Left ts e ls rest → rest ≡ [] → read_lines ts between e ≡ Ok ls
-left_none ts rest e ls h none = h ∙ ap (λ rest. before ls (read_lines rest between e)) none ∙ ap (λ z. Ok z) (append-nil ls)
-
 -- the lines of a text
 before_lines : (l : Tree) (ls : List Tree) (r : Lines) → put l (before ls r) ≡ before (l ∷ ls) r
 before_lines l ls (Ok ms) = refl

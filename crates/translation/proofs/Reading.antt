@@ -43,12 +43,6 @@ read_more d here after k ls l p q r =
     r ∙ ap (λ m. noted (tested here m) l) q ∙ ap (λ x. noted (tested x (pushed x.clear (guard_words l))) l) p ∙ read_one d ls l
 
 -- ---- a whole text
-pub text_read : (x : Result (List Tree) TextFault) (d e : Sketch) (ls : List Tree) → x ≡ Ok ls → e ≡ read_all d ls → Reads x d e (Ok tt)
-text_read x d e ls p q = let P : Result (List Tree) TextFault → Type 0 = λ x. Reads x d e (Ok tt) in subst P (sym p) (refl, q)
-
-pub text_refused : (x : Result (List Tree) TextFault) (d e : Sketch) (r : Result (Unit {0}) TextFault) (f : TextFault) → x ≡ Err f → r ≡ Err f → Reads x d e r
-text_refused x d e r f p q = let P : Result (List Tree) TextFault → Type 0 = λ x. Reads x d e r in subst P (sym p) q
-
 joined_parts : (xs ys zs : List Instruction) → joined (joined (pushed nothing xs) (pushed nothing ys)) (pushed nothing zs) ≡ pushed nothing (xs ++ (ys ++ zs))
 joined_parts xs ys zs = ap (λ k. joined k (pushed nothing zs)) (pushed_joined xs ys) ∙ pushed_joined (xs ++ ys) zs ∙ ap (pushed nothing) (append_assoc xs ys zs)
 
