@@ -5,9 +5,8 @@ use Rattle.std.proofs.lemmas.Bool.{both_ways}
 use Rattle.faults.specs.Numbers.{file_number, file_place}
 use Rattle.faults.specs.declared.FileFault.{FileFault}
 use Rattle.faults.specs.declared.FileFault.TheVariants.{Unbalanced}
-use Rattle.codefile.specs.declared.directory.Layout.{Layout}
 use Rattle.codefile.specs.Parts.{Stretch, chain, scanned, judged}
-use Rattle.codefile.specs.File.{Regular, layout_of, words_of, clear_bytes, enter_bytes, hold_bytes, stretches, checked}
+use Rattle.codefile.specs.File.{Layout, Regular, layout_of, words_of, clear_bytes, enter_bytes, hold_bytes, stretches, checked}
 use Rattle.codefile.specs.First.{WordAt, Misplaced, FaultIn, FaultOf, NoLater, First, FirstFault, verdict}
 use Rattle.codefile.proofs.Verdicts.{ok_is}
 use Rattle.codefile.proofs.WordFaults.{MisplacedFrom, FaultFrom, Owed, Faults, Scans, fault_cases, reaches, scans}

@@ -6,8 +6,7 @@ use Rattle.faults.specs.declared.Section.TheVariants.{Initial, Clear, Enter, Hol
 use Rattle.faults.specs.declared.FileFault.{FileFault}
 use Rattle.faults.specs.declared.FileFault.TheVariants.{TooShort, NoMark, BadPair, TooManyWords}
 use Rattle.codefile.specs.declared.directory.Directory.{Directory}
-use Rattle.codefile.specs.declared.directory.Layout.{Layout}
-use Rattle.codefile.specs.File.{marked, directory_of, end, follows, broken_pair, too_many, layout_in, layout_of, Regular}
+use Rattle.codefile.specs.File.{Layout, marked, directory_of, end, follows, broken_pair, too_many, layout_in, layout_of, Regular}
 use Rattle.codefile.proofs.Verdicts.{refused_not, ok_is}
 
 some_not : (s : Section) → ◌≡◌ {A = Option Section} (Some s) None → ⊥

@@ -2,11 +2,10 @@
 use Rattle.std.proofs.Common.{◌≡◌, ℕ, ◌+◌, Bool, true, false, cond, List, length, Ok, Err, Result, refl, ap, ◌∙◌}
 use Rattle.faults.specs.declared.FileFault.{FileFault}
 use Rattle.words.specs.declared.instruction.Part.TheVariants.{Clear, Enter, Hold}
-use Rattle.codefile.specs.declared.directory.Layout.{Layout}
 use Rattle.words.specs.Brackets.{sound}
 use Rattle.faults.specs.declared.FileFault.TheVariants.{Unbalanced}
 use Rattle.codefile.specs.Parts.{chain, scanned}
-use Rattle.codefile.specs.File.{layout_of, checked, words_of, clear_bytes, enter_bytes, hold_bytes, accepted_layout}
+use Rattle.codefile.specs.File.{Layout, layout_of, checked, words_of, clear_bytes, enter_bytes, hold_bytes, accepted_layout}
 use Rattle.codefile.proofs.Verdicts.{refused_not}
 use Rattle.codefile.proofs.Scans.{scan_sound}
 

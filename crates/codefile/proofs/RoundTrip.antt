@@ -10,9 +10,8 @@ use Rattle.words.specs.declared.instruction.Part.TheVariants.{Clear, Enter, Hold
 use Rattle.words.specs.Words.{lawful, pairs, numbers, operator_of, area_of, number_of}
 use Rattle.words.specs.Brackets.{sound, after}
 use Rattle.codefile.specs.declared.directory.Directory.{Directory}
-use Rattle.codefile.specs.declared.directory.Layout.{Layout}
 use Rattle.codefile.specs.Parts.{chain, judged, scanned}
-use Rattle.codefile.specs.File.{Code, le32, le_at, words_of, marked, directory_of, broken_pair, too_many, layout_in, layout_of, clear_bytes, enter_bytes, hold_bytes, enter_stretch, hold_stretch, checked, contents, code_of}
+use Rattle.codefile.specs.File.{Layout, Code, le32, le_at, words_of, marked, directory_of, broken_pair, too_many, layout_in, layout_of, clear_bytes, enter_bytes, hold_bytes, enter_stretch, hold_stretch, checked, contents, code_of}
 use Rattle.codefile.specs.Written.{word_bytes, section_at, directory_for, file_of, word_count, SoundCode, LoadsBack}
 use Rattle.codefile.proofs.Directories.{pair_of, directory_is}
 use Rattle.codefile.proofs.Layouts.{lengths}

@@ -7,8 +7,12 @@ use Rattle.faults.specs.declared.FileFault.TheVariants.{TooShort, NoMark, BadPai
 use Rattle.words.specs.declared.instruction.Part.TheVariants as part
 use Rattle.codefile.specs.declared.directory.Pair.{Pair}
 use Rattle.codefile.specs.declared.directory.Directory.{Directory}
-use Rattle.codefile.specs.declared.directory.Layout.{Layout}
+use Rattle.codefile.specs.declared.parts.Parts.{Parts}
 use Rattle.codefile.specs.Parts.{Stretch, chain, judged}
+
+-- how many bytes each part has
+abbrev pub Layout : Type 0
+Layout = Parts ℕ
 
 -- four bytes, lowest first
 abbrev pub le32 : ℕ → ℕ → ℕ → ℕ → ℕ

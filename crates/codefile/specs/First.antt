@@ -6,9 +6,8 @@ use Rattle.faults.specs.declared.FileFault.{FileFault}
 use Rattle.faults.specs.declared.FileFault.TheVariants.{TooShort, NoMark, BadPair, TooManyWords, UnlawfulWord, Unbalanced}
 use Rattle.words.specs.Words.{lawful}
 use Rattle.words.specs.Brackets.{opens, closes}
-use Rattle.codefile.specs.declared.directory.Layout.{Layout}
 use Rattle.codefile.specs.Parts.{Stretch}
-use Rattle.codefile.specs.File.{layout_of, stretches}
+use Rattle.codefile.specs.File.{Layout, layout_of, stretches}
 
 -- how many of the words open a bracket, and how many close one
 abbrev pub opened : List ℕ → ℕ
