@@ -16,9 +16,9 @@ fn fill(words: &mut Reserved<u32, 4096>, bytes: &[u8])
     ensures { words.new ≡ words_of bytes.now }
 {
     words.clear();
-    let (chunks, _) = bytes.as_chunks::<4>();
-    for bytes in chunks {
-        words.push(u32::from_le_bytes(*bytes)).unwrap();
+    let (all, _) = bytes.as_chunks::<4>();
+    for word in all {
+        words.push(u32::from_le_bytes(*word)).unwrap();
     }
 }
 

@@ -46,9 +46,9 @@ pub(crate) fn scan(part: Part, bytes: &[u8], start: usize, before: bool) -> Resu
     let (words, _) = bytes.as_chunks::<4>();
     let mut owed = before;
     let mut depth: usize = 0;
-    for (i, bytes) in words.iter().enumerate() {
+    for (i, word) in words.iter().enumerate() {
         let place = start + 4 * i;
-        let word = u32::from_le_bytes(*bytes);
+        let word = u32::from_le_bytes(*word);
         if !is_lawful(part, word) {
             return Err(FileFault::UnlawfulWord(place));
         }
