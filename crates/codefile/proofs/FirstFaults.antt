@@ -120,8 +120,9 @@ first_fault bs l r =
     (λ g f. inr f)
     (checked bs l) (judges false 44 (length bs) (stretches bs l) (consecutive bs l r))
 
--- so is every answer that accepts or refuses as the judgement of the file's words does
-pub answers_first : {A : Type 0} (bs : List ℕ) (l : Layout) → layout_of bs ≡ Ok l → Regular (length bs) l → (r : Result A FileFault) → verdict r ≡ checked bs l → FirstFault bs r
-answers_first bs l read regular r e m other =
+-- so is every answer to bytes that accepts or refuses as the judgement of the words of a file that has them does
+pub answers_first : {A : Type 0} (bs own : List ℕ) (l : Layout) → own ≡ bs → layout_of bs ≡ Ok l → Regular (length own) l → (r : Result A FileFault) → verdict r ≡ checked own l → FirstFault bs r
+answers_first bs own l same read regular r e m other =
     let A : Layout → Type 0 = λ k. First (FaultOf (stretches bs k)) (verdict r) in
-    subst A (ok_is l m (sym read ∙ other)) (subst (First (FaultOf (stretches bs l))) (sym e) (first_fault bs l regular))
+    let B : List ℕ → Type 0 = λ xs. First (FaultOf (stretches xs l)) (verdict r) in
+    subst A (ok_is l m (sym read ∙ other)) (subst B same (subst (First (FaultOf (stretches own l))) (sym e) (first_fault own l regular)))
