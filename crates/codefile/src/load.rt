@@ -1,5 +1,5 @@
 //! Loading a code file into a program.
-ghost use Rattle.std.specs.Prelude.{◌≡◌, ◌≤◌, length, IfOk, Ok};
+ghost use Rattle.std.specs.Prelude.{◌≡◌, ◌*◌, ◌≤◌, length, IfOk, Ok};
 ghost use Rattle.codefile.specs.File.{words_of, checked, contents};
 ghost use Rattle.codefile.specs.First.{FirstFault};
 ghost use Rattle.codefile.specs.Loads.{Loads, code_in, no_code};
@@ -11,8 +11,8 @@ use room::Reserved;
 use std::alloc::{AllocError, Global};
 
 // Fills a part with the words of its bytes.
-fn fill(words: &mut Reserved<u32, 4096>, bytes: &[u8])
-    requires { length bytes.now ≤ 16384 }
+fn fill<const N: usize>(words: &mut Reserved<u32, N>, bytes: &[u8])
+    requires { length bytes.now ≤ 4 * N }
     ensures { words.new ≡ words_of bytes.now }
 {
     words.clear();
