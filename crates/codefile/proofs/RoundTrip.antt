@@ -13,7 +13,6 @@ use Rattle.codefile.specs.declared.directory.Directory.{Directory}
 use Rattle.codefile.specs.Parts.{chain, judged, scanned}
 use Rattle.codefile.specs.File.{Layout, Code, le32, le_at, words_of, marked, directory_of, broken_pair, too_many, layout_in, layout_of, clear_bytes, enter_bytes, hold_bytes, enter_stretch, hold_stretch, checked, contents, code_of}
 use Rattle.codefile.specs.Written.{word_bytes, section_at, directory_for, file_of, word_count, SoundCode, LoadsBack}
-use Rattle.codefile.proofs.Directories.{pair_of, directory_is}
 use Rattle.codefile.proofs.Layouts.{lengths}
 use Rattle.codefile.proofs.Loading.{accepted_by}
 use Rattle.codefile.proofs.Scans.{sound_scan}
@@ -65,11 +64,12 @@ directory_back c few =
     let clear = length c.clear in
     let enter = length c.enter in
     let hold = length c.hold in
-    sym (directory_is (file_of c) (section_at 36 8) (section_at 44 (4 * clear)) (section_at (44 + 4 * clear) (4 * enter)) (section_at (44 + 4 * clear + 4 * enter) (4 * hold))
-    refl
-    (pair_of refl (sym (number_back (4 * clear) (omega arith))))
-    (pair_of (sym (number_back (44 + 4 * clear) (omega arith))) (sym (number_back (4 * enter) (omega arith))))
-    (pair_of (sym (number_back (44 + 4 * clear + 4 * enter) (omega arith))) (sym (number_back (4 * hold) (omega arith)))))
+    let a = number_back (4 * clear) (omega arith) in
+    let b = number_back (44 + 4 * clear) (omega arith) in
+    let d = number_back (4 * enter) (omega arith) in
+    let e = number_back (44 + 4 * clear + 4 * enter) (omega arith) in
+    let f = number_back (4 * hold) (omega arith) in
+    cc
 
 unbroken_directory : (c : Code) → broken_pair (directory_for c) (44 + 4 * word_count c) ≡ None
 unbroken_directory c =
