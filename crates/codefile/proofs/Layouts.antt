@@ -10,15 +10,7 @@ use Rattle.codefile.specs.File.{Layout, marked, directory_of, end, follows, brok
 use Rattle.codefile.proofs.Verdicts.{refused_not, ok_is}
 
 some_not : (s : Section) → ◌≡◌ {A = Option Section} (Some s) None → ⊥
-some_not s h = let z : ◌≡◌ {A = ℕ} 0 1 = cc in omega arith
-
-passes : {A : Type 0} (b : Bool) (e : FileFault) (r : Result A FileFault) (x : A) → cond b (Err e) r ≡ Ok x → (b ≡ false) × (r ≡ Ok x)
-passes true e r x h = absurd (refused_not e x h)
-passes false e r x h = (refl, h)
-
-holds_up : {A : Type 0} (b : Bool) (r : Result A FileFault) (e : FileFault) (x : A) → cond b r (Err e) ≡ Ok x → (b ≡ true) × (r ≡ Ok x)
-holds_up true r e x h = (refl, h)
-holds_up false r e x h = absurd (refused_not e x h)
+some_not s h = cc
 
 unbroken : (b : Bool) (o : Option Section) (s : Section) → cond b o (Some s) ≡ None → (b ≡ true) × (o ≡ None)
 unbroken true o s h = (refl, h)
@@ -27,12 +19,7 @@ unbroken false o s h = absurd (some_not s h)
 abbrev pub lengths : Directory → Layout
 lengths d = record { clear = d.clear.length; enter = d.enter.length; hold = d.hold.length }
 
--- the layout is the directory's, no pair is broken, and there are few words
-inside : (d : Directory) (o : Option Section) (l : Layout) → layout_in d o ≡ Ok l → (o ≡ None) × (too_many d ≡ false) × (lengths d ≡ l)
-inside d (Some s) l h = absurd (refused_not (BadPair s) l h)
-inside d None l h = let p = passes (too_many d) TooManyWords (Ok (lengths d)) l h in (refl, p.0, ok_is (lengths d) l p.1)
-
-regular_lengths : (d : Directory) (size : ℕ) → broken_pair d size ≡ None → too_many d ≡ false → Regular size (lengths d)
+pub regular_lengths : (d : Directory) (size : ℕ) → broken_pair d size ≡ None → too_many d ≡ false → Regular size (lengths d)
 regular_lengths d size h few =
     let a = unbroken (eqb d.initial.offset 36 && eqb d.initial.length 8) _ Initial h in
     let b = unbroken (follows d.initial d.clear) _ Clear a.1 in
@@ -56,11 +43,3 @@ regular_lengths d size h few =
       holds = eqb-true _ _ hold.1;
       few = ltb-false 4096 _ few;
     }
-
-pub layout_regular : (bs : List ℕ) (l : Layout) → layout_of bs ≡ Ok l → Regular (length bs) l
-layout_regular bs l h =
-    let long = passes (ltb (length bs) 36) TooShort _ l h in
-    let mark = holds_up (marked bs) _ NoMark l long.1 in
-    let d = directory_of bs in
-    let i = inside d (broken_pair d (length bs)) l mark.1 in
-    subst (Regular (length bs)) i.2 (regular_lengths d (length bs) i.0 i.1)

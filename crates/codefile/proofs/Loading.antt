@@ -37,7 +37,7 @@ checked_sound bs l e =
 
 -- with its head accepted, a file is judged by its words
 pub accepted_by : (bs : List ℕ) (l : Layout) (v : Result (Unit {0}) FileFault) → layout_of bs ≡ Ok l → checked bs l ≡ v → accepted_layout bs ≡ chain v (λ _. Ok l)
-accepted_by bs l v head words = ap (λ r. chain r (λ m. chain (checked bs m) (λ _. Ok m))) head ∙ ap (λ r. chain r (λ _. Ok l)) words
+accepted_by bs l v head words = rw (head, words)
 
 at_end : (bs : List ℕ) (i : ℕ) → i < 8 → get_or (take 8 (drop 36 bs)) i 0 ≡ get_or bs (36 + i) 0
 at_end bs i h = get_or-take 8 (drop 36 bs) i 0 h ∙ get_or-drop 36 bs i 0

@@ -1,7 +1,6 @@
 -- A written file is accepted, and says what was written. Assumes nothing.
 use Rattle.std.proofs.Common.{◌≡◌, ℕ, ◌+◌, ◌*◌, ◌/◌, ◌%◌, ◌<◌, ◌≤◌, true, false, eqb, List, [], ◌∷◌, ◌++◌, length, take, drop, None, Ok, sym, refl, ap, ◌∙◌, arith}
-use native.Mathlib.Nat.{div-div-eq-div-mul}
-use Rattle.std.proofs.lemmas.Nat.{div-add-mod'}
+use Rattle.std.proofs.lemmas.Nat.{from_le_bytes-to_le_bytes_4}
 use Rattle.std.proofs.lemmas.List.{take_at, drop_at}
 use Rattle.std.proofs.lemmas.Bool.{cond-true, cond-false, and_parts, and_from, le-ltb, eq-eqb}
 use Rattle.std.proofs.lemmas.Bool.Decides.{nat_tests}
@@ -19,18 +18,8 @@ use Rattle.codefile.proofs.Scans.{sound_scan}
 use Rattle.codefile.proofs.WrittenFiles.{length_words, length_file}
 
 -- ---- numbers and words are read back
-digits : (n a b c d q r : ℕ) → q * 256 + a ≡ n → r * 256 + b ≡ q → d * 256 + c ≡ r → le32 a b c d ≡ n
-digits n a b c d q r e f g = omega arith
-
 number_back : (n : ℕ) → n < 4294967296 → le32 (n % 256) (n / 256 % 256) (n / 65536 % 256) (n / 16777216 % 256) ≡ n
-number_back n h =
-    let second : n / 65536 ≡ n / 256 / 256 = sym (div-div-eq-div-mul n 256 256) in
-    let third : n / 16777216 ≡ n / 65536 / 256 = sym (div-div-eq-div-mul n 65536 256) in
-    let top : n / 16777216 % 256 ≡ n / 16777216 = omega arith in
-    digits n (n % 256) (n / 256 % 256) (n / 65536 % 256) (n / 16777216 % 256) (n / 256) (n / 65536)
-    (div-add-mod' n 256)
-    (ap (λ x. x * 256 + n / 256 % 256) second ∙ div-add-mod' (n / 256) 256)
-    (ap (λ x. x * 256 + n / 65536 % 256) (top ∙ third) ∙ div-add-mod' (n / 65536) 256)
+number_back = from_le_bytes-to_le_bytes_4
 
 below_fourteen : (p : Part) (o a : ℕ) → pairs p o a ≡ true → o < 14
 below_fourteen p o a h = grind (arith, nat_tests)
@@ -136,19 +125,13 @@ checked_from bs l c is s =
     ap (scanned Enter (44 + l.clear) false 0) is.enter ∙ sound_scan Enter (44 + l.clear) 0 c.enter s.enters in
     let hold : scanned Hold (44 + l.clear + l.enter) false 0 (words_of (hold_bytes bs l)) ≡ Ok false =
     ap (scanned Hold (44 + l.clear + l.enter) false 0) is.hold ∙ sound_scan Hold (44 + l.clear + l.enter) 0 c.hold s.holds in
-    ap (λ r. chain r (λ left. judged left end (enter_stretch bs l ∷ (hold_stretch bs l ∷ [])))) clear
-    ∙ ap (λ r. chain r (λ left. judged left end (hold_stretch bs l ∷ []))) enter
-    ∙ ap (λ r. chain r (λ left. judged left end [])) hold
+    rw (clear, enter, hold)
 
 abbrev code : ℕ → List ℕ → List ℕ → List ℕ → Code
 code i a b d = record { initial = i; clear = a; enter = b; hold = d }
 
 contents_from : (bs : List ℕ) (l : Layout) (c : Code) → le_at bs 36 + le_at bs 40 * 4294967296 ≡ c.initial → PartsAre bs l c → contents bs l ≡ c
-contents_from bs l c e is =
-    ap (λ i. code i (words_of (clear_bytes bs l)) (words_of (enter_bytes bs l)) (words_of (hold_bytes bs l))) e
-    ∙ ap (λ a. code c.initial a (words_of (enter_bytes bs l)) (words_of (hold_bytes bs l))) is.clear
-    ∙ ap (λ b. code c.initial c.clear b (words_of (hold_bytes bs l))) is.enter
-    ∙ ap (λ d. code c.initial c.clear c.enter d) is.hold
+contents_from bs l c e is = cc
 
 halves : (n low high : ℕ) → low ≡ n % 4294967296 → high ≡ n / 4294967296 → low + high * 4294967296 ≡ n
 halves n low high e f = omega arith

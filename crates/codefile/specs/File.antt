@@ -1,5 +1,5 @@
 -- The code file, from its bytes alone. Assumes nothing.
-use Rattle.std.specs.Prelude.{◌≡◌, ℕ, ◌+◌, ◌*◌, ◌/◌, ◌%◌, ◌≤◌, Bool, false, cond, ◌&&◌, List, [], ◌∷◌, length, take, drop, Some, None, Ok, Err, Option, Result, ◌==◌, nat_lt, slice_index}
+use Rattle.std.specs.Prelude.{◌≡◌, ℕ, ◌+◌, ◌*◌, ◌/◌, ◌%◌, ◌≤◌, Bool, false, if◌then◌else◌, ◌&&◌, List, [], ◌∷◌, length, take, drop, Some, None, Ok, Err, Option, Result, ◌==◌, nat_lt, slice_index}
 use Rattle.faults.specs.declared.Section.{Section}
 use Rattle.faults.specs.declared.Section.TheVariants.{Initial, Clear, Enter, Hold}
 use Rattle.faults.specs.declared.FileFault.{FileFault}
@@ -49,11 +49,13 @@ follows before p = p.offset == end before && p.length % 4 == 0
 -- the first section whose pair breaks a rule, in a file of this size
 abbrev pub broken_pair : Directory → ℕ → Option Section
 broken_pair d size =
-    cond (d.initial.offset == 36 && d.initial.length == 8)
-    (cond (follows d.initial d.clear)
-    (cond (follows d.clear d.enter)
-    (cond (follows d.enter d.hold && end d.hold == size) None
-    (Some Hold)) (Some Enter)) (Some Clear)) (Some Initial)
+    if d.initial.offset == 36 && d.initial.length == 8
+    then (if follows d.initial d.clear
+    then (if follows d.clear d.enter
+    then (if follows d.enter d.hold && end d.hold == size then None else Some Hold)
+    else Some Enter)
+    else Some Clear)
+    else Some Initial
 
 abbrev pub too_many : Directory → Bool
 too_many d = nat_lt 4096 ((d.clear.length + d.enter.length + d.hold.length) / 4)
@@ -61,14 +63,16 @@ too_many d = nat_lt 4096 ((d.clear.length + d.enter.length + d.hold.length) / 4)
 abbrev pub layout_in : Directory → Option Section → Result Layout FileFault
 layout_in d (Some section) = Err (BadPair section)
 layout_in d None =
-    cond (too_many d) (Err TooManyWords)
-    (Ok (record { clear = d.clear.length; enter = d.enter.length; hold = d.hold.length }))
+    if too_many d
+    then Err TooManyWords
+    else Ok (record { clear = d.clear.length; enter = d.enter.length; hold = d.hold.length })
 
 -- the parts' lengths, or the fault of the head
 abbrev pub layout_of : List ℕ → Result Layout FileFault
 layout_of bs =
-    cond (nat_lt (length bs) 36) (Err TooShort)
-    (cond (marked bs) (layout_in (directory_of bs) (broken_pair (directory_of bs) (length bs))) (Err NoMark))
+    if nat_lt (length bs) 36
+    then Err TooShort
+    else (if marked bs then layout_in (directory_of bs) (broken_pair (directory_of bs) (length bs)) else Err NoMark)
 
 -- the parts are whole words, fill the file behind the initial steps, and are at most 4,096 words
 pub record Regular (size : ℕ) (l : Layout) : Type 0 where

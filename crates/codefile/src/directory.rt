@@ -53,7 +53,7 @@ fn directory_of(head: &[u8; 36]) -> Directory
 fn does_follow(before: Pair, pair: Pair) -> bool
     ensures { result ≡ follows before pair }
 {
-    (pair.offset as u64 == before.offset as u64 + before.length as u64) & (pair.length % 4 == 0)
+    pair.offset as u64 == before.offset as u64 + before.length as u64 && pair.length % 4 == 0
 }
 
 // The first section whose pair breaks a rule, in a file of this size.

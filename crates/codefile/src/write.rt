@@ -1,5 +1,5 @@
 //! Writing a code file.
-ghost use Rattle.std.specs.Prelude.{◌≡◌, ◌+◌, ◌*◌, ◌<◌, ◌≤◌, length, take, IfOk, IfSome, IfNone};
+ghost use Rattle.std.specs.Prelude.{◌≡◌, ◌+◌, ◌*◌, ◌<◌, ◌≤◌, length, take, IfOk, MatchOption};
 ghost use Rattle.codefile.specs.Written.{bytes32, word_bytes, pair_bytes, directory_bytes, section_at, directory_for, head_bytes, file_of, word_count, written, answered, buffer_after, over, code_for, LoadsBack};
 
 use crate::directory::{Directory, Pair};
@@ -90,8 +90,7 @@ struct Fitting<'a> {
 
 impl<'a> Fitting<'a> {
     fn new(contents: Contents<'a>) -> Option<Fitting<'a>>
-        ensures fits { IfSome result (λ f. f.contents ≡ contents.entry) }
-        ensures many { IfNone result (4096 < word_count (code_for contents.entry)) }
+        ensures { MatchOption result (4096 < word_count (code_for contents.entry)) (λ f. f.contents ≡ contents.entry) }
     {
         if contents.clear.len() + contents.enter.len() + contents.hold.len() > 4096 {
             return None;
