@@ -1,5 +1,5 @@
 -- A written file is accepted, and says what was written. Assumes nothing.
-use Rattle.std.proofs.Common.{◌≡◌, ℕ, ◌+◌, ◌*◌, ◌/◌, ◌%◌, ◌<◌, ◌≤◌, true, false, eqb, List, [], ◌∷◌, ◌++◌, length, take, drop, None, Ok, sym, refl, ap, ◌∙◌, arith}
+use Rattle.std.proofs.Common.{◌≡◌, ℕ, ◌+◌, ◌*◌, ◌/◌, ◌%◌, ◌<◌, ◌≤◌, true, false, eqb, nat_lt, List, [], ◌∷◌, ◌++◌, length, take, drop, None, Ok, sym, refl, ap, ◌∙◌, arith}
 use Rattle.std.proofs.lemmas.Nat.{from_le_bytes-to_le_bytes_4}
 use Rattle.std.proofs.lemmas.List.{take_at, drop_at}
 use Rattle.std.proofs.lemmas.Bool.{cond-true, cond-false, and_parts, and_from, le-ltb, eq-eqb}
@@ -41,11 +41,8 @@ words_back p depth (w ∷ ws) h =
 -- ---- the head is accepted
 layout_from : (bs : List ℕ) (d : Directory) → 36 ≤ length bs → marked bs ≡ true → directory_of bs ≡ d → broken_pair d (length bs) ≡ None → too_many d ≡ false → layout_of bs ≡ Ok (lengths d)
 layout_from bs d long mark e none few =
-    cond-false _ _ _ (le-ltb (length bs) 36 long)
-    ∙ cond-true (marked bs) _ _ mark
-    ∙ ap (λ x. layout_in x (broken_pair x (length bs))) e
-    ∙ ap (layout_in d) none
-    ∙ cond-false (too_many d) _ _ few
+    let at : nat_lt (length bs) 36 ≡ false = le-ltb (length bs) 36 long in
+    rw (at, mark) (ap (λ x. layout_in x (broken_pair x (length bs))) e ∙ ap (layout_in d) none ∙ rw few)
 
 directory_back : (c : Code) → word_count c ≤ 4096 → directory_of (file_of c) ≡ directory_for c
 unfolding file_of
@@ -65,11 +62,7 @@ unbroken_directory c =
     let clear = length c.clear in
     let enter = length c.enter in
     let hold = length c.hold in
-    cond-true _ _ _ (eq-eqb ((4 * clear) % 4) 0 (omega arith))
-    ∙ cond-true _ _ _ (and_from _ _ (eq-eqb (44 + 4 * clear) (44 + 4 * clear) refl) (eq-eqb ((4 * enter) % 4) 0 (omega arith)))
-    ∙ cond-true _ _ _ (and_from _ _
-    (and_from _ _ (eq-eqb (44 + 4 * clear + 4 * enter) (44 + 4 * clear + 4 * enter) refl) (eq-eqb ((4 * hold) % 4) 0 (omega arith)))
-    (eq-eqb (44 + 4 * clear + 4 * enter + 4 * hold) (44 + 4 * word_count c) (omega arith)))
+    grind (arith, nat_tests)
 
 abbrev layout_for : Code → Layout
 layout_for c = lengths (directory_for c)
@@ -131,7 +124,7 @@ abbrev code : ℕ → List ℕ → List ℕ → List ℕ → Code
 code i a b d = record { initial = i; clear = a; enter = b; hold = d }
 
 contents_from : (bs : List ℕ) (l : Layout) (c : Code) → le_at bs 36 + le_at bs 40 * 4294967296 ≡ c.initial → PartsAre bs l c → contents bs l ≡ c
-contents_from bs l c e is = cc
+contents_from bs l c e is = rw (e, is.clear, is.enter, is.hold)
 
 halves : (n low high : ℕ) → low ≡ n % 4294967296 → high ≡ n / 4294967296 → low + high * 4294967296 ≡ n
 halves n low high e f = omega arith
