@@ -10,13 +10,6 @@ use Rattle.codefile.specs.declared.directory.Directory.{Directory}
 use Rattle.codefile.specs.File.{Layout, marked, directory_of, end, follows, broken_pair, too_many, layout_in, layout_of, Regular}
 use Rattle.codefile.proofs.Verdicts.{refused_not, ok_is}
 
-some_not : (s : Section) → ◌≡◌ {A = Option Section} (Some s) None → ⊥
-some_not s h = cc
-
-unbroken : (b : Bool) (o : Option Section) (s : Section) → cond b o (Some s) ≡ None → (b ≡ true) × (o ≡ None)
-unbroken true o s h = (refl, h)
-unbroken false o s h = absurd (some_not s h)
-
 abbrev pub lengths : Directory → Layout
 lengths d = record { clear = d.clear.length; enter = d.enter.length; hold = d.hold.length }
 

@@ -46,14 +46,7 @@ balance : (d w : ℕ) → spoils d w ≡ false → after d w + cond (closes w) 1
 balance d w h = grind (arith, nat_tests)
 
 spoils_is : (d w : ℕ) → spoils d w ≡ true → MisplacedFrom d [] w
-spoils_is d w h =
-    ⊎_elim
-    (λ o. inr (o, omega (arith, leb-true 17 d (sym (cond-true (opens w) _ _ o) ∙ h))))
-    (λ o. ⊎_elim
-    (λ c. inl (c, omega (arith, eqb-true d 0 (sym (cond-false (opens w) _ _ o ∙ cond-true (closes w) _ _ c) ∙ h))))
-    (λ c. absurd (both_ways false refl (sym (cond-false (opens w) _ _ o ∙ cond-false (closes w) _ _ c) ∙ h)))
-    (cases_Bool (closes w)))
-    (cases_Bool (opens w))
+spoils_is d w h = grind (arith, nat_tests)
 
 is_spoils : (d w : ℕ) → MisplacedFrom d [] w → spoils d w ≡ true
 is_spoils d w = ⊎_elim (λ m. let c = m.0 in let z = m.1 in grind (arith, nat_tests)) (λ m. let o = m.0 in let z = m.1 in grind (arith, nat_tests))
@@ -106,11 +99,8 @@ same_faults : (F G : FileFault → Type 0) → ((g : FileFault) → F g → G g)
 same_faults F G to from end (Err f) s = (to f s.0, λ g h. s.1 g (from g h), s.2)
 same_faults F G to from end (Ok left) s = (λ g h. s.0 g (from g h), λ l. to (Unbalanced end) (s.1 l))
 
-ways : (m n : ℕ) → m ≤ n → (m ≡ n) ⊎ (m < n)
-ways m n h = ⊎_elim (λ e. inl e) (λ ne. inr (omega arith)) (cases_eq m n)
-
 no_later : (f g : FileFault) → file_place f ≤ file_place g → (file_place f ≡ file_place g → file_number f ≤ file_number g) → NoLater f g
-no_later f g h k = ⊎_elim (λ e. inr (e, k e)) (λ lt. inl lt) (ways (file_place f) (file_place g) h)
+no_later f g h k = grind arith
 
 -- ---- the scan at the end of the words
 end_all : (p : Part) (owed : Bool) (d at : ℕ) (g : FileFault) → Faults p owed d at [] g → ((owed || ltb 0 d) ≡ true) × (g ≡ Unbalanced (at + 4 * 0))
