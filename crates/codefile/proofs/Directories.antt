@@ -1,12 +1,9 @@
 -- The head of a file, read from its first 36 bytes. Assumes nothing.
-use Rattle.std.proofs.Common.{◌≡◌, ℕ, ◌+◌, ◌<◌, ◌≤◌, List, length, take, Err, Result, ap, sym, ◌∙◌, arith, if◌then◌else◌}
+use Rattle.std.proofs.Common.{◌≡◌, ℕ, ◌+◌, ◌<◌, ◌≤◌, List, length, take, Err, ap, sym, ◌∙◌, arith, if◌then◌else◌}
 use Rattle.std.proofs.lemmas.List.{get_or-take}
 use Rattle.std.proofs.lemmas.Bool.{cond-false, le-ltb}
-use Rattle.faults.specs.declared.FileFault.{FileFault}
-use Rattle.faults.specs.declared.FileFault.TheVariants.{TooShort, NoMark}
-use Rattle.codefile.specs.declared.directory.Pair.{Pair}
-use Rattle.codefile.specs.declared.directory.Directory.{Directory}
-use Rattle.codefile.specs.File.{Layout, le_at, pair_at, directory_of, marked, broken_pair, layout_in, layout_of}
+use Rattle.faults.specs.declared.FileFault.TheVariants.{NoMark}
+use Rattle.codefile.specs.File.{le_at, directory_of, marked, broken_pair, layout_in, layout_of}
 
 le_front : (bs : List ℕ) (i : ℕ) → i + 3 < 36 → le_at (take 36 bs) i ≡ le_at bs i
 le_front bs i h =

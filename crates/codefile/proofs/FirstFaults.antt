@@ -23,16 +23,16 @@ in_part s =
     fault_cases _ _ (FaultIn s)
     (λ place a. a)
     (λ place. ⊎_elim
-    (λ a. inl (weaken (MisplacedFrom 0) Misplaced (λ b w. ⊎_elim (λ m. inl (m.0, omega (arith, m.1))) (λ m. inr (m.0, omega (arith, m.1)))) a))
-    (λ o. inr (record { ends = o.ends; left = omega (arith, o.left) })))
+    (λ a. inl (weaken (MisplacedFrom 0) Misplaced (λ b w. ⊎_elim (λ m. inl (m.0, omega arith)) (λ m. inr (m.0, omega arith))) a))
+    (λ o. inr (record { ends = o.ends; left = omega arith })))
 
 from_part : (s : Stretch) (f : FileFault) → FaultIn s f → From s f
 from_part s =
     fault_cases _ _ (From s)
     (λ place a. a)
     (λ place. ⊎_elim
-    (λ a. inl (weaken Misplaced (MisplacedFrom 0) (λ b w. ⊎_elim (λ m. inl (m.0, omega (arith, m.1))) (λ m. inr (m.0, omega (arith, m.1)))) a))
-    (λ o. inr (record { ends = o.ends; left = omega (arith, o.left) })))
+    (λ a. inl (weaken Misplaced (MisplacedFrom 0) (λ b w. ⊎_elim (λ m. inl (m.0, omega arith)) (λ m. inr (m.0, omega arith))) a))
+    (λ o. inr (record { ends = o.ends; left = omega arith })))
 
 -- ---- the parts lie one behind the other, up to the end of the file
 abbrev pub Consecutive : ℕ → ℕ → List Stretch → Type 0
@@ -108,10 +108,10 @@ consecutive bs l r =
     let behind = length-drop 44 bs in
     let rest = length-drop l.clear (drop 44 bs) in
     let last = length-drop l.enter (drop l.clear (drop 44 bs)) in
-    let clear = word_bytes (clear_bytes bs l) l.clear (length-take-le l.clear (drop 44 bs) (omega (arith, r.whole, behind))) r.clears in
-    let enter = word_bytes (enter_bytes bs l) l.enter (length-take-le l.enter (drop l.clear (drop 44 bs)) (omega (arith, r.whole, behind, rest))) r.enters in
-    let hold = word_bytes (hold_bytes bs l) l.hold (omega (arith, r.whole, behind, rest, last)) r.holds in
-    (refl, (omega (arith, clear), (omega (arith, clear, enter), omega (arith, clear, enter, hold, r.whole))))
+    let clear = word_bytes (clear_bytes bs l) l.clear (length-take-le l.clear (drop 44 bs) (omega arith)) r.clears in
+    let enter = word_bytes (enter_bytes bs l) l.enter (length-take-le l.enter (drop l.clear (drop 44 bs)) (omega arith)) r.enters in
+    let hold = word_bytes (hold_bytes bs l) l.hold (omega arith) r.holds in
+    (refl, (omega arith, (omega arith, omega arith)))
 
 first_fault : (bs : List ℕ) (l : Layout) → Regular (length bs) l → First (FaultOf (stretches bs l)) (checked bs l)
 first_fault bs l r =

@@ -1,14 +1,9 @@
 -- What a head that is accepted says of the parts' lengths. Assumes nothing.
-use Rattle.std.proofs.Common.{◌≡◌, ℕ, Bool, true, false, cond, ◌&&◌, eqb, ltb, List, length, Some, None, Ok, Err, Option, Result, refl, subst, arith}
+use Rattle.std.proofs.Common.{◌≡◌, ℕ, false, None, arith}
 use Rattle.std.proofs.lemmas.Bool.Decides.{nat_tests}
-use Rattle.std.proofs.lemmas.Bool.{and_parts, eqb-true, ltb-false}
-use Rattle.faults.specs.declared.Section.{Section}
-use Rattle.faults.specs.declared.Section.TheVariants.{Initial, Clear, Enter, Hold}
-use Rattle.faults.specs.declared.FileFault.{FileFault}
-use Rattle.faults.specs.declared.FileFault.TheVariants.{TooShort, NoMark, BadPair, TooManyWords}
+use Rattle.std.proofs.lemmas.Bool.{ltb-false}
 use Rattle.codefile.specs.declared.directory.Directory.{Directory}
-use Rattle.codefile.specs.File.{Layout, marked, directory_of, end, follows, broken_pair, too_many, layout_in, layout_of, Regular}
-use Rattle.codefile.proofs.Verdicts.{refused_not, ok_is}
+use Rattle.codefile.specs.File.{Layout, broken_pair, too_many, Regular}
 
 abbrev pub lengths : Directory → Layout
 lengths d = record { clear = d.clear.length; enter = d.enter.length; hold = d.hold.length }

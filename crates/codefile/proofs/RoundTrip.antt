@@ -1,17 +1,17 @@
 -- A written file is accepted, and says what was written. Assumes nothing.
-use Rattle.std.proofs.Common.{◌≡◌, ℕ, ◌+◌, ◌*◌, ◌/◌, ◌%◌, ◌<◌, ◌≤◌, true, false, eqb, nat_lt, List, [], ◌∷◌, ◌++◌, length, take, drop, None, Ok, sym, refl, ap, ◌∙◌, arith}
+use Rattle.std.proofs.Common.{◌≡◌, ℕ, ◌+◌, ◌*◌, ◌/◌, ◌%◌, ◌<◌, ◌≤◌, true, false, eqb, nat_lt, List, [], ◌∷◌, ◌++◌, length, take, drop, None, Ok, refl, ap, ◌∙◌, arith}
 use Rattle.std.proofs.lemmas.Nat.{from_le_bytes-to_le_bytes_4}
 use Rattle.std.proofs.lemmas.List.{take_at, drop_at}
-use Rattle.std.proofs.lemmas.Bool.{cond-true, cond-false, and_parts, and_from, le-ltb, eq-eqb}
+use Rattle.std.proofs.lemmas.Bool.{and_parts, le-ltb}
 use Rattle.std.proofs.lemmas.Bool.Decides.{nat_tests}
 use Rattle.words.specs.declared.instruction.Part.{Part}
 use Rattle.words.specs.declared.instruction.Part.TheVariants.{Clear, Enter, Hold}
 use Rattle.words.specs.Words.{lawful, pairs, numbers, operator_of, area_of, number_of}
 use Rattle.words.specs.Brackets.{sound, after}
 use Rattle.codefile.specs.declared.directory.Directory.{Directory}
-use Rattle.codefile.specs.Parts.{chain, judged, scanned}
-use Rattle.codefile.specs.File.{Layout, Code, le32, le_at, words_of, marked, directory_of, broken_pair, too_many, layout_in, layout_of, clear_bytes, enter_bytes, hold_bytes, enter_stretch, hold_stretch, checked, contents, code_of}
-use Rattle.codefile.specs.Written.{word_bytes, section_at, directory_for, file_of, word_count, SoundCode, LoadsBack}
+use Rattle.codefile.specs.Parts.{chain, scanned}
+use Rattle.codefile.specs.File.{Layout, Code, le32, le_at, words_of, marked, directory_of, broken_pair, too_many, layout_in, layout_of, clear_bytes, enter_bytes, hold_bytes, checked, contents, code_of}
+use Rattle.codefile.specs.Written.{word_bytes, directory_for, file_of, word_count, SoundCode, LoadsBack}
 use Rattle.codefile.proofs.Layouts.{lengths}
 use Rattle.codefile.proofs.Loading.{accepted_by}
 use Rattle.codefile.proofs.Scans.{sound_scan}

@@ -1,12 +1,13 @@
 -- One word of a part, as the scan meets it. Assumes nothing.
-use Rattle.std.proofs.Common.{◌≡◌, ℕ, suc, ◌+◌, ◌*◌, ◌/◌, ◌<◌, Bool, true, false, cond, ◌||◌, eqb, ltb, List, [], ◌∷◌, length, drop, map, get_or, Ok, Err, refl, sym, ap, ◌∙◌, ⊎_elim, w32, arith}
+use Rattle.std.proofs.Common.{◌≡◌, ℕ, suc, ◌+◌, ◌*◌, ◌/◌, ◌<◌, Bool, true, false, cond, ◌||◌, eqb, ltb, List, [], ◌∷◌, length, drop, map, get_or, Ok, Err, Result, refl, sym, ap, ◌∙◌, w32, arith}
 use Rattle.std.proofs.lemmas.List.{drop_more}
 use Rattle.std.specs.Int.{from_le_bytes}
 use Rattle.std.specs.Simd.{first_chunks}
-use Rattle.std.proofs.lemmas.Bool.{cond-true, cond-false, cases_Bool, or_parts, and_from, and_parts, not_from_false, not-true, ltb-false, le-ltb, eq-eqb, eqb-true}
+use Rattle.std.proofs.lemmas.Bool.{cond-true, cond-false, or_parts, and_from, and_parts, not_from_false, not-true, ltb-false, le-ltb, eq-eqb, eqb-true}
 use Rattle.words.specs.declared.instruction.Part.{Part}
 use Rattle.words.specs.Words.{lawful}
 use Rattle.words.specs.Brackets.{spoils, after, sound}
+use Rattle.faults.specs.declared.FileFault.{FileFault}
 use Rattle.faults.specs.declared.FileFault.TheVariants.{Unbalanced}
 use Rattle.codefile.specs.Parts.{scanned}
 use Rattle.codefile.specs.File.{le32, words_of}
@@ -41,20 +42,19 @@ scan_more p start owed depth next words i w inside e good none fine is =
 zero_depth : (depth : ℕ) → ltb 0 depth ≡ false → eqb depth 0 ≡ true
 zero_depth depth e = eq-eqb depth 0 (omega (arith, ltb-false 0 depth e))
 
+passes : (good bad : Bool) (e f : FileFault) (rest : Result Bool FileFault) → cond good (cond bad (Err e) rest) (Err f) ≡ Ok false → (good ≡ true) × (bad ≡ false) × (rest ≡ Ok false)
+passes true true e f rest h = absurd (refused_not e false h)
+passes true false e f rest h = (refl, refl, h)
+passes false bad e f rest h = absurd (refused_not f false h)
+
 -- a scan that ends with no bracket open began with none owed, and the words are sound
 pub scan_sound : (p : Part) (at : ℕ) (owed : Bool) (depth : ℕ) (ws : List ℕ) → scanned p at owed depth ws ≡ Ok false → (owed ≡ false) × (sound p depth ws ≡ true)
 scan_sound p at owed depth [] e = let none = or_parts owed (ltb 0 depth) (ok_is (owed || ltb 0 depth) false e) in (none.0, zero_depth depth none.1)
 scan_sound p at owed depth (w ∷ ws) e =
-    ⊎_elim
-    (λ good. ⊎_elim
-    (λ bad. absurd (refused_not _ false (sym (cond-true (lawful p w) _ _ good ∙ cond-true (owed || spoils depth w) _ _ bad) ∙ e)))
-    (λ fine.
-    let none = or_parts owed (spoils depth w) fine in
-    let rest = scan_sound p (at + 4) false (after depth w) ws (sym (cond-true (lawful p w) _ _ good ∙ cond-false (owed || spoils depth w) _ _ fine) ∙ e) in
-    (none.0, and_from _ _ good (and_from _ _ (not_from_false (spoils depth w) none.1) rest.1)))
-    (cases_Bool (owed || spoils depth w)))
-    (λ bad. absurd (refused_not _ false (sym (cond-false (lawful p w) _ _ bad) ∙ e)))
-    (cases_Bool (lawful p w))
+    let fine = passes (lawful p w) (owed || spoils depth w) _ _ _ e in
+    let none = or_parts owed (spoils depth w) fine.1 in
+    let rest = scan_sound p (at + 4) false (after depth w) ws fine.2 in
+    (none.0, and_from _ _ fine.0 (and_from _ _ (not_from_false (spoils depth w) none.1) rest.1))
 
 -- sound words are scanned to their end, with no bracket open there
 pub sound_scan : (p : Part) (at depth : ℕ) (ws : List ℕ) → sound p depth ws ≡ true → scanned p at false depth ws ≡ Ok false
