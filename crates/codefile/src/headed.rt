@@ -1,6 +1,6 @@
 //! A code file whose head is accepted.
 ghost use Rattle.std.specs.Prelude.{◌≡◌, length};
-ghost use Rattle.codefile.specs.File.{le_at, Regular, clear_bytes, enter_bytes, hold_bytes, checked};
+ghost use Rattle.codefile.specs.File.{le_at, Regular, checked};
 
 use crate::directory::layout_of;
 use crate::parts::{Parts, scan};
@@ -31,10 +31,8 @@ impl<'a> Headed<'a> {
     pub(crate) fn initial(&self) -> u64
         ensures { result ≡ le_at self.now.bytes.now 36 + le_at self.now.bytes.now 40 * 4294967296 }
     {
-        match self.bytes[36..].first_chunk() {
-            Some(initial) => u64::from_le_bytes(*initial),
-            None => unreachable!(),
-        }
+        let initial = self.bytes[36..].first_chunk().unwrap();
+        u64::from_le_bytes(*initial)
     }
 
     /// The bytes of each part.

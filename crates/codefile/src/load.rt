@@ -27,15 +27,11 @@ impl Program {
     pub fn new(heap: Global) -> Result<Program, AllocError>
         ensures { IfOk result (λ p. code_in p ≡ no_code) }
     {
-        let clear = Reserved::new(heap)?;
-        let enter = Reserved::new(heap)?;
-        let hold = Reserved::new(heap)?;
-        let initial = 0;
         Ok(Program {
-            initial,
-            clear,
-            enter,
-            hold,
+            initial: 0,
+            clear: Reserved::new(heap)?,
+            enter: Reserved::new(heap)?,
+            hold: Reserved::new(heap)?,
         })
     }
 

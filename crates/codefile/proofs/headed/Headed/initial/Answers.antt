@@ -6,5 +6,6 @@ use Rattle.codefile.proofs.headed.Headed.initial.Goals as goal
 
 pub returns : goal.returns
 returns c =
-    c.from_le_bytes.ensures ∙ ap (from_le_bytes w64) c.in-Some.ensures.cases.same
-    ∙ initial_is c.args.self.now.bytes.now _ (take_rest c.args.self.now.bytes.now 36)
+    let bs = c.args.self.now.bytes.now in
+    let first = rw c.unwrap-initial.ensures at c.first_chunk.ensures.cases in
+    c.from_le_bytes.ensures ∙ ap (from_le_bytes w64) first.same ∙ initial_is bs _ (take_rest bs 36)
