@@ -1,5 +1,5 @@
 -- The code file, from its bytes alone. Assumes nothing.
-use Rattle.std.specs.Prelude.{◌≡◌, ℕ, ◌+◌, ◌*◌, ◌/◌, ◌%◌, ◌≤◌, Bool, false, if◌then◌else◌, ◌&&◌, List, [], ◌∷◌, length, take, drop, Some, None, Ok, Err, Option, Result, ◌==◌, nat_lt, slice_index}
+use Rattle.std.specs.Prelude.{◌≡◌, ℕ, ◌+◌, ◌*◌, ◌/◌, ◌%◌, ◌≤◌, Bool, false, if◌then◌else◌, not, ◌&&◌, List, [], ◌∷◌, length, take, drop, Some, None, Ok, Err, Option, Result, ◌==◌, nat_lt, slice_index}
 use Rattle.faults.specs.declared.Section.{Section}
 use Rattle.faults.specs.declared.Section.TheVariants.{Initial, Clear, Enter, Hold}
 use Rattle.faults.specs.declared.FileFault.{FileFault}
@@ -49,13 +49,11 @@ follows before p = p.offset == end before && p.length % 4 == 0
 -- the first section whose pair breaks a rule, in a file of this size
 abbrev pub broken_pair : Directory → ℕ → Option Section
 broken_pair d size =
-    if d.initial.offset == 36 && d.initial.length == 8
-    then (if follows d.initial d.clear
-    then (if follows d.clear d.enter
-    then (if follows d.enter d.hold && end d.hold == size then None else Some Hold)
-    else Some Enter)
-    else Some Clear)
-    else Some Initial
+    if not (d.initial.offset == 36 && d.initial.length == 8) then Some Initial
+    else (if not (follows d.initial d.clear) then Some Clear
+    else (if not (follows d.clear d.enter) then Some Enter
+    else (if not (follows d.enter d.hold && end d.hold == size) then Some Hold
+    else None)))
 
 abbrev pub too_many : Directory → Bool
 too_many d = nat_lt 4096 ((d.clear.length + d.enter.length + d.hold.length) / 4)
