@@ -5,9 +5,8 @@ use Rattle.std.proofs.lemmas.Bool.{both_ways}
 use Rattle.faults.specs.Numbers.{file_number, file_place}
 use Rattle.faults.specs.declared.FileFault.{FileFault}
 use Rattle.faults.specs.declared.FileFault.TheVariants.{Unbalanced}
-use Rattle.codefile.specs.declared.directory.Layout.{Layout}
 use Rattle.codefile.specs.Parts.{Stretch, chain, scanned, judged}
-use Rattle.codefile.specs.File.{Regular, layout_of, words_of, clear_bytes, enter_bytes, hold_bytes, stretches, checked}
+use Rattle.codefile.specs.File.{Layout, Regular, layout_of, words_of, clear_bytes, enter_bytes, hold_bytes, stretches, checked}
 use Rattle.codefile.specs.First.{WordAt, Misplaced, FaultIn, FaultOf, NoLater, First, FirstFault, verdict}
 use Rattle.codefile.proofs.Verdicts.{ok_is}
 use Rattle.codefile.proofs.WordFaults.{MisplacedFrom, FaultFrom, Owed, Faults, Scans, fault_cases, reaches, scans}
@@ -24,16 +23,16 @@ in_part s =
     fault_cases _ _ (FaultIn s)
     (λ place a. a)
     (λ place. ⊎_elim
-    (λ a. inl (weaken (MisplacedFrom 0) Misplaced (λ b w. ⊎_elim (λ m. inl (m.0, omega (arith, m.1))) (λ m. inr (m.0, omega (arith, m.1)))) a))
-    (λ o. inr (record { ends = o.ends; left = omega (arith, o.left) })))
+    (λ a. inl (weaken (MisplacedFrom 0) Misplaced (λ b w. ⊎_elim (λ m. inl (m.0, omega arith)) (λ m. inr (m.0, omega arith))) a))
+    (λ o. inr (record { ends = o.ends; left = omega arith })))
 
 from_part : (s : Stretch) (f : FileFault) → FaultIn s f → From s f
 from_part s =
     fault_cases _ _ (From s)
     (λ place a. a)
     (λ place. ⊎_elim
-    (λ a. inl (weaken Misplaced (MisplacedFrom 0) (λ b w. ⊎_elim (λ m. inl (m.0, omega (arith, m.1))) (λ m. inr (m.0, omega (arith, m.1)))) a))
-    (λ o. inr (record { ends = o.ends; left = omega (arith, o.left) })))
+    (λ a. inl (weaken Misplaced (MisplacedFrom 0) (λ b w. ⊎_elim (λ m. inl (m.0, omega arith)) (λ m. inr (m.0, omega arith))) a))
+    (λ o. inr (record { ends = o.ends; left = omega arith })))
 
 -- ---- the parts lie one behind the other, up to the end of the file
 abbrev pub Consecutive : ℕ → ℕ → List Stretch → Type 0
@@ -109,10 +108,10 @@ consecutive bs l r =
     let behind = length-drop 44 bs in
     let rest = length-drop l.clear (drop 44 bs) in
     let last = length-drop l.enter (drop l.clear (drop 44 bs)) in
-    let clear = word_bytes (clear_bytes bs l) l.clear (length-take-le l.clear (drop 44 bs) (omega (arith, r.whole, behind))) r.clears in
-    let enter = word_bytes (enter_bytes bs l) l.enter (length-take-le l.enter (drop l.clear (drop 44 bs)) (omega (arith, r.whole, behind, rest))) r.enters in
-    let hold = word_bytes (hold_bytes bs l) l.hold (omega (arith, r.whole, behind, rest, last)) r.holds in
-    (refl, (omega (arith, clear), (omega (arith, clear, enter), omega (arith, clear, enter, hold, r.whole))))
+    let clear = word_bytes (clear_bytes bs l) l.clear (length-take-le l.clear (drop 44 bs) (omega arith)) r.clears in
+    let enter = word_bytes (enter_bytes bs l) l.enter (length-take-le l.enter (drop l.clear (drop 44 bs)) (omega arith)) r.enters in
+    let hold = word_bytes (hold_bytes bs l) l.hold (omega arith) r.holds in
+    (refl, (omega arith, (omega arith, omega arith)))
 
 first_fault : (bs : List ℕ) (l : Layout) → Regular (length bs) l → First (FaultOf (stretches bs l)) (checked bs l)
 first_fault bs l r =
@@ -121,8 +120,9 @@ first_fault bs l r =
     (λ g f. inr f)
     (checked bs l) (judges false 44 (length bs) (stretches bs l) (consecutive bs l r))
 
--- so is every answer that accepts or refuses as the judgement of the file's words does
-pub answers_first : {A : Type 0} (bs : List ℕ) (l : Layout) → layout_of bs ≡ Ok l → Regular (length bs) l → (r : Result A FileFault) → verdict r ≡ checked bs l → FirstFault bs r
-answers_first bs l read regular r e m other =
+-- so is every answer to bytes that accepts or refuses as the judgement of the words of a file that has them does
+pub answers_first : {A : Type 0} (bs own : List ℕ) (l : Layout) → own ≡ bs → layout_of bs ≡ Ok l → Regular (length own) l → (r : Result A FileFault) → verdict r ≡ checked own l → FirstFault bs r
+answers_first bs own l same read regular r e m other =
     let A : Layout → Type 0 = λ k. First (FaultOf (stretches bs k)) (verdict r) in
-    subst A (ok_is l m (sym read ∙ other)) (subst (First (FaultOf (stretches bs l))) (sym e) (first_fault bs l regular))
+    let B : List ℕ → Type 0 = λ xs. First (FaultOf (stretches xs l)) (verdict r) in
+    subst A (ok_is l m (sym read ∙ other)) (subst B same (subst (First (FaultOf (stretches own l))) (sym e) (first_fault own l regular)))

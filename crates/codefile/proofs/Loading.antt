@@ -1,12 +1,13 @@
 -- A checked file has sound parts. Assumes nothing.
-use Rattle.std.proofs.Common.{◌≡◌, ℕ, ◌+◌, Bool, true, false, cond, List, length, Ok, Err, Result, refl, ap, ◌∙◌}
+use Rattle.std.proofs.Common.{◌≡◌, ℕ, ◌+◌, ◌*◌, ◌<◌, get_or, take, drop, w64, arith, Bool, true, false, cond, List, length, Ok, Err, Result, refl, ap, ◌∙◌}
+use Rattle.std.specs.Int.{from_le_bytes}
+use Rattle.std.proofs.lemmas.List.{get_or-take, get_or-drop}
 use Rattle.faults.specs.declared.FileFault.{FileFault}
 use Rattle.words.specs.declared.instruction.Part.TheVariants.{Clear, Enter, Hold}
-use Rattle.codefile.specs.declared.directory.Layout.{Layout}
 use Rattle.words.specs.Brackets.{sound}
 use Rattle.faults.specs.declared.FileFault.TheVariants.{Unbalanced}
 use Rattle.codefile.specs.Parts.{chain, scanned}
-use Rattle.codefile.specs.File.{layout_of, checked, words_of, clear_bytes, enter_bytes, hold_bytes, accepted_layout}
+use Rattle.codefile.specs.File.{Layout, le_at, layout_of, checked, words_of, clear_bytes, enter_bytes, hold_bytes, accepted_layout}
 use Rattle.codefile.proofs.Verdicts.{refused_not}
 use Rattle.codefile.proofs.Scans.{scan_sound}
 
@@ -36,4 +37,12 @@ checked_sound bs l e =
 
 -- with its head accepted, a file is judged by its words
 pub accepted_by : (bs : List ℕ) (l : Layout) (v : Result (Unit {0}) FileFault) → layout_of bs ≡ Ok l → checked bs l ≡ v → accepted_layout bs ≡ chain v (λ _. Ok l)
-accepted_by bs l v head words = ap (λ r. chain r (λ m. chain (checked bs m) (λ _. Ok m))) head ∙ ap (λ r. chain r (λ _. Ok l)) words
+accepted_by bs l v head words = rw (head, words)
+
+at_end : (bs : List ℕ) (i : ℕ) → i < 8 → get_or (take 8 (drop 36 bs)) i 0 ≡ get_or bs (36 + i) 0
+at_end bs i h = get_or-take 8 (drop 36 bs) i 0 h ∙ get_or-drop 36 bs i 0
+
+-- the eight bytes of the initial steps, as two numbers
+pub initial_is : (bs back : List ℕ) → back ≡ drop 36 bs → from_le_bytes w64 (take 8 back) ≡ le_at bs 36 + le_at bs 40 * 4294967296
+initial_is bs back e =
+    rw e (omega (arith, at_end bs 0 (omega arith), at_end bs 1 (omega arith), at_end bs 2 (omega arith), at_end bs 3 (omega arith), at_end bs 4 (omega arith), at_end bs 5 (omega arith), at_end bs 6 (omega arith), at_end bs 7 (omega arith)))

@@ -1,38 +1,25 @@
 -- A written file is accepted, and says what was written. Assumes nothing.
-use Rattle.std.proofs.Common.{◌≡◌, ℕ, ◌+◌, ◌*◌, ◌/◌, ◌%◌, ◌<◌, ◌≤◌, true, false, eqb, List, [], ◌∷◌, ◌++◌, length, take, drop, None, Ok, sym, refl, ap, ◌∙◌, arith}
-use native.Mathlib.Nat.{div-div-eq-div-mul}
-use Rattle.std.proofs.lemmas.Nat.{div-add-mod'}
+use Rattle.std.proofs.Common.{◌≡◌, ℕ, ◌+◌, ◌*◌, ◌/◌, ◌%◌, ◌<◌, ◌≤◌, true, false, eqb, nat_lt, List, [], ◌∷◌, ◌++◌, length, take, drop, None, Ok, refl, ap, ◌∙◌, arith}
+use Rattle.std.proofs.lemmas.Nat.{from_le_bytes-to_le_bytes_4}
 use Rattle.std.proofs.lemmas.List.{take_at, drop_at}
-use Rattle.std.proofs.lemmas.Bool.{cond-true, cond-false, and_parts, and_from, le-ltb, eq-eqb}
+use Rattle.std.proofs.lemmas.Bool.{and_parts, le-ltb}
 use Rattle.std.proofs.lemmas.Bool.Decides.{nat_tests}
 use Rattle.words.specs.declared.instruction.Part.{Part}
 use Rattle.words.specs.declared.instruction.Part.TheVariants.{Clear, Enter, Hold}
 use Rattle.words.specs.Words.{lawful, pairs, numbers, operator_of, area_of, number_of}
 use Rattle.words.specs.Brackets.{sound, after}
 use Rattle.codefile.specs.declared.directory.Directory.{Directory}
-use Rattle.codefile.specs.declared.directory.Layout.{Layout}
-use Rattle.codefile.specs.Parts.{chain, judged, scanned}
-use Rattle.codefile.specs.File.{Code, le32, le_at, words_of, marked, directory_of, broken_pair, too_many, layout_in, layout_of, clear_bytes, enter_bytes, hold_bytes, enter_stretch, hold_stretch, checked, contents, code_of}
-use Rattle.codefile.specs.Written.{word_bytes, section_at, directory_for, file_of, word_count, SoundCode, LoadsBack}
-use Rattle.codefile.proofs.Directories.{pair_of, directory_is}
+use Rattle.codefile.specs.Parts.{chain, scanned}
+use Rattle.codefile.specs.File.{Layout, Code, le32, le_at, words_of, marked, directory_of, broken_pair, too_many, layout_in, layout_of, clear_bytes, enter_bytes, hold_bytes, checked, contents, code_of}
+use Rattle.codefile.specs.Written.{word_bytes, directory_for, file_of, word_count, SoundCode, LoadsBack}
 use Rattle.codefile.proofs.Layouts.{lengths}
 use Rattle.codefile.proofs.Loading.{accepted_by}
 use Rattle.codefile.proofs.Scans.{sound_scan}
 use Rattle.codefile.proofs.WrittenFiles.{length_words, length_file}
 
 -- ---- numbers and words are read back
-digits : (n a b c d q r : ℕ) → q * 256 + a ≡ n → r * 256 + b ≡ q → d * 256 + c ≡ r → le32 a b c d ≡ n
-digits n a b c d q r e f g = omega arith
-
 number_back : (n : ℕ) → n < 4294967296 → le32 (n % 256) (n / 256 % 256) (n / 65536 % 256) (n / 16777216 % 256) ≡ n
-number_back n h =
-    let second : n / 65536 ≡ n / 256 / 256 = sym (div-div-eq-div-mul n 256 256) in
-    let third : n / 16777216 ≡ n / 65536 / 256 = sym (div-div-eq-div-mul n 65536 256) in
-    let top : n / 16777216 % 256 ≡ n / 16777216 = omega arith in
-    digits n (n % 256) (n / 256 % 256) (n / 65536 % 256) (n / 16777216 % 256) (n / 256) (n / 65536)
-    (div-add-mod' n 256)
-    (ap (λ x. x * 256 + n / 256 % 256) second ∙ div-add-mod' (n / 256) 256)
-    (ap (λ x. x * 256 + n / 65536 % 256) (top ∙ third) ∙ div-add-mod' (n / 65536) 256)
+number_back = from_le_bytes-to_le_bytes_4
 
 below_fourteen : (p : Part) (o a : ℕ) → pairs p o a ≡ true → o < 14
 below_fourteen p o a h = grind (arith, nat_tests)
@@ -54,11 +41,8 @@ words_back p depth (w ∷ ws) h =
 -- ---- the head is accepted
 layout_from : (bs : List ℕ) (d : Directory) → 36 ≤ length bs → marked bs ≡ true → directory_of bs ≡ d → broken_pair d (length bs) ≡ None → too_many d ≡ false → layout_of bs ≡ Ok (lengths d)
 layout_from bs d long mark e none few =
-    cond-false _ _ _ (le-ltb (length bs) 36 long)
-    ∙ cond-true (marked bs) _ _ mark
-    ∙ ap (λ x. layout_in x (broken_pair x (length bs))) e
-    ∙ ap (layout_in d) none
-    ∙ cond-false (too_many d) _ _ few
+    let at : nat_lt (length bs) 36 ≡ false = le-ltb (length bs) 36 long in
+    rw (at, mark) (ap (λ x. layout_in x (broken_pair x (length bs))) e ∙ ap (layout_in d) none ∙ rw few)
 
 directory_back : (c : Code) → word_count c ≤ 4096 → directory_of (file_of c) ≡ directory_for c
 unfolding file_of
@@ -66,22 +50,19 @@ directory_back c few =
     let clear = length c.clear in
     let enter = length c.enter in
     let hold = length c.hold in
-    sym (directory_is (file_of c) (section_at 36 8) (section_at 44 (4 * clear)) (section_at (44 + 4 * clear) (4 * enter)) (section_at (44 + 4 * clear + 4 * enter) (4 * hold))
-    refl
-    (pair_of refl (sym (number_back (4 * clear) (omega arith))))
-    (pair_of (sym (number_back (44 + 4 * clear) (omega arith))) (sym (number_back (4 * enter) (omega arith))))
-    (pair_of (sym (number_back (44 + 4 * clear + 4 * enter) (omega arith))) (sym (number_back (4 * hold) (omega arith)))))
+    let a = number_back (4 * clear) (omega arith) in
+    let b = number_back (44 + 4 * clear) (omega arith) in
+    let d = number_back (4 * enter) (omega arith) in
+    let e = number_back (44 + 4 * clear + 4 * enter) (omega arith) in
+    let f = number_back (4 * hold) (omega arith) in
+    cc
 
 unbroken_directory : (c : Code) → broken_pair (directory_for c) (44 + 4 * word_count c) ≡ None
 unbroken_directory c =
     let clear = length c.clear in
     let enter = length c.enter in
     let hold = length c.hold in
-    cond-true _ _ _ (eq-eqb ((4 * clear) % 4) 0 (omega arith))
-    ∙ cond-true _ _ _ (and_from _ _ (eq-eqb (44 + 4 * clear) (44 + 4 * clear) refl) (eq-eqb ((4 * enter) % 4) 0 (omega arith)))
-    ∙ cond-true _ _ _ (and_from _ _
-    (and_from _ _ (eq-eqb (44 + 4 * clear + 4 * enter) (44 + 4 * clear + 4 * enter) refl) (eq-eqb ((4 * hold) % 4) 0 (omega arith)))
-    (eq-eqb (44 + 4 * clear + 4 * enter + 4 * hold) (44 + 4 * word_count c) (omega arith)))
+    grind (arith, nat_tests)
 
 abbrev layout_for : Code → Layout
 layout_for c = lengths (directory_for c)
@@ -137,19 +118,13 @@ checked_from bs l c is s =
     ap (scanned Enter (44 + l.clear) false 0) is.enter ∙ sound_scan Enter (44 + l.clear) 0 c.enter s.enters in
     let hold : scanned Hold (44 + l.clear + l.enter) false 0 (words_of (hold_bytes bs l)) ≡ Ok false =
     ap (scanned Hold (44 + l.clear + l.enter) false 0) is.hold ∙ sound_scan Hold (44 + l.clear + l.enter) 0 c.hold s.holds in
-    ap (λ r. chain r (λ left. judged left end (enter_stretch bs l ∷ (hold_stretch bs l ∷ [])))) clear
-    ∙ ap (λ r. chain r (λ left. judged left end (hold_stretch bs l ∷ []))) enter
-    ∙ ap (λ r. chain r (λ left. judged left end [])) hold
+    rw (clear, enter, hold)
 
 abbrev code : ℕ → List ℕ → List ℕ → List ℕ → Code
 code i a b d = record { initial = i; clear = a; enter = b; hold = d }
 
 contents_from : (bs : List ℕ) (l : Layout) (c : Code) → le_at bs 36 + le_at bs 40 * 4294967296 ≡ c.initial → PartsAre bs l c → contents bs l ≡ c
-contents_from bs l c e is =
-    ap (λ i. code i (words_of (clear_bytes bs l)) (words_of (enter_bytes bs l)) (words_of (hold_bytes bs l))) e
-    ∙ ap (λ a. code c.initial a (words_of (enter_bytes bs l)) (words_of (hold_bytes bs l))) is.clear
-    ∙ ap (λ b. code c.initial c.clear b (words_of (hold_bytes bs l))) is.enter
-    ∙ ap (λ d. code c.initial c.clear c.enter d) is.hold
+contents_from bs l c e is = rw (e, is.clear, is.enter, is.hold)
 
 halves : (n low high : ℕ) → low ≡ n % 4294967296 → high ≡ n / 4294967296 → low + high * 4294967296 ≡ n
 halves n low high e f = omega arith

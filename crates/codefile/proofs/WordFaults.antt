@@ -1,6 +1,6 @@
 -- The scan of a part meets its first fault. Assumes nothing.
 use Rattle.std.proofs.Common.{◌≡◌, ℕ, zero, suc, ◌+◌, ◌*◌, ◌<◌, ◌≤◌, Bool, true, false, cond, ◌||◌, ltb, ◌⊎◌, List, [], ◌∷◌, length, get_or, take, Ok, Err, Result, sym, refl, ap, ◌∙◌, subst, inl, inr, ⊎_elim, le_of_suc-le-suc, not-suc-le-zero, arith}
-use Rattle.std.proofs.lemmas.Bool.{cond-true, cond-false, cases_Bool, or_cases, or_parts, or_left, or_right, both_ways, cases_eq, ltb-true, lt-ltb, leb-true, eqb-true}
+use Rattle.std.proofs.lemmas.Bool.{cond-true, cond-false, cases_Bool, or_cases, or_parts, or_left, or_right, both_ways, ltb-true, lt-ltb}
 use Rattle.std.proofs.lemmas.Bool.Decides.{nat_tests}
 use Rattle.faults.specs.Numbers.{file_number, file_place}
 use Rattle.faults.specs.declared.FileFault.{FileFault}
@@ -16,7 +16,7 @@ at_head : (at w : ℕ) (ws : List ℕ) (P : List ℕ → ℕ → Type 0) → P [
 at_head at w ws P h = record { index = 0; inside = omega arith; stands = omega arith; is = h }
 
 in_tail : (at w : ℕ) (ws : List ℕ) (place : ℕ) (P Q : List ℕ → ℕ → Type 0) → ((b : List ℕ) (v : ℕ) → Q b v → P (w ∷ b) v) → WordAt (at + 4) ws place Q → WordAt at (w ∷ ws) place P
-in_tail at w ws place P Q f a = record { index = suc a.index; inside = omega (arith, a.inside); stands = omega (arith, a.stands); is = f _ _ a.is }
+in_tail at w ws place P Q f a = record { index = suc a.index; inside = omega arith; stands = omega arith; is = f _ _ a.is }
 
 split : (at w : ℕ) (ws : List ℕ) (place : ℕ) (P Q : List ℕ → ℕ → Type 0) → ((b : List ℕ) (v : ℕ) → P (w ∷ b) v → Q b v) → (i : ℕ) → i < length (w ∷ ws) → place ≡ at + 4 * i → P (take i (w ∷ ws)) (get_or (w ∷ ws) i 0) → ((place ≡ at) × P [] w) ⊎ WordAt (at + 4) ws place Q
 split at w ws place P Q f zero inside stands is = inl (omega arith, is)
@@ -46,14 +46,7 @@ balance : (d w : ℕ) → spoils d w ≡ false → after d w + cond (closes w) 1
 balance d w h = grind (arith, nat_tests)
 
 spoils_is : (d w : ℕ) → spoils d w ≡ true → MisplacedFrom d [] w
-spoils_is d w h =
-    ⊎_elim
-    (λ o. inr (o, omega (arith, leb-true 17 d (sym (cond-true (opens w) _ _ o) ∙ h))))
-    (λ o. ⊎_elim
-    (λ c. inl (c, omega (arith, eqb-true d 0 (sym (cond-false (opens w) _ _ o ∙ cond-true (closes w) _ _ c) ∙ h))))
-    (λ c. absurd (both_ways false refl (sym (cond-false (opens w) _ _ o ∙ cond-false (closes w) _ _ c) ∙ h)))
-    (cases_Bool (closes w)))
-    (cases_Bool (opens w))
+spoils_is d w h = grind (arith, nat_tests)
 
 is_spoils : (d w : ℕ) → MisplacedFrom d [] w → spoils d w ≡ true
 is_spoils d w = ⊎_elim (λ m. let c = m.0 in let z = m.1 in grind (arith, nat_tests)) (λ m. let o = m.0 in let z = m.1 in grind (arith, nat_tests))
@@ -62,12 +55,12 @@ is_spoils d w = ⊎_elim (λ m. let c = m.0 in let z = m.1 in grind (arith, nat_
 later : (d w : ℕ) → spoils d w ≡ false → (b : List ℕ) (v : ℕ) → MisplacedFrom d (w ∷ b) v → MisplacedFrom (after d w) b v
 later d w h b v =
     let e = balance d w h in
-    ⊎_elim (λ m. inl (m.0, omega (arith, e, m.1))) (λ m. inr (m.0, omega (arith, e, m.1)))
+    ⊎_elim (λ m. inl (m.0, omega arith)) (λ m. inr (m.0, omega arith))
 
 earlier : (d w : ℕ) → spoils d w ≡ false → (b : List ℕ) (v : ℕ) → MisplacedFrom (after d w) b v → MisplacedFrom d (w ∷ b) v
 earlier d w h b v =
     let e = balance d w h in
-    ⊎_elim (λ m. inl (m.0, omega (arith, e, m.1))) (λ m. inr (m.0, omega (arith, e, m.1)))
+    ⊎_elim (λ m. inl (m.0, omega arith)) (λ m. inr (m.0, omega arith))
 
 -- ---- the faults of words that begin at a place with so many brackets open
 abbrev pub FaultFrom : Part → ℕ → ℕ → List ℕ → FileFault → Type 0
@@ -94,8 +87,8 @@ fault_cases U B Q word bracket (Unbalanced place) h = bracket place h
 pub reaches : (p : Part) (d at : ℕ) (ws : List ℕ) (f : FileFault) → FaultFrom p d at ws f → (at ≤ file_place f) × (18 ≤ file_number f)
 reaches p d at ws =
     fault_cases _ _ (λ f. (at ≤ file_place f) × (18 ≤ file_number f))
-    (λ place a. (omega (arith, a.stands), omega arith))
-    (λ place h. (⊎_elim (λ a. omega (arith, a.stands)) (λ o. omega (arith, o.ends)) h, omega arith))
+    (λ place a. (omega arith, omega arith))
+    (λ place h. (⊎_elim (λ a. omega arith) (λ o. omega arith) h, omega arith))
 
 -- what a scan over such faults answers: the first of them, before the end; or that none is left but one at the end
 abbrev pub Scans : (FileFault → Type 0) → ℕ → Result Bool FileFault → Type 0
@@ -106,11 +99,8 @@ same_faults : (F G : FileFault → Type 0) → ((g : FileFault) → F g → G g)
 same_faults F G to from end (Err f) s = (to f s.0, λ g h. s.1 g (from g h), s.2)
 same_faults F G to from end (Ok left) s = (λ g h. s.0 g (from g h), λ l. to (Unbalanced end) (s.1 l))
 
-ways : (m n : ℕ) → m ≤ n → (m ≡ n) ⊎ (m < n)
-ways m n h = ⊎_elim (λ e. inl e) (λ ne. inr (omega arith)) (cases_eq m n)
-
 no_later : (f g : FileFault) → file_place f ≤ file_place g → (file_place f ≡ file_place g → file_number f ≤ file_number g) → NoLater f g
-no_later f g h k = ⊎_elim (λ e. inr (e, k e)) (λ lt. inl lt) (ways (file_place f) (file_place g) h)
+no_later f g h k = grind arith
 
 -- ---- the scan at the end of the words
 end_all : (p : Part) (owed : Bool) (d at : ℕ) (g : FileFault) → Faults p owed d at [] g → ((owed || ltb 0 d) ≡ true) × (g ≡ Unbalanced (at + 4 * 0))
@@ -119,7 +109,7 @@ end_all p owed d at g =
     (λ o. (or_left _ _ o.0, o.1 ∙ ap (λ x. Unbalanced x) (omega arith)))
     (fault_cases _ _ (λ f. ((owed || ltb 0 d) ≡ true) × (f ≡ Unbalanced (at + 4 * 0)))
     (λ place a. absurd (none_at at place _ a))
-    (λ place. ⊎_elim (λ a. absurd (none_at at place _ a)) (λ o. (or_right _ _ (lt-ltb 0 d (omega (arith, o.left))), ap (λ x. Unbalanced x) o.ends)))
+    (λ place. ⊎_elim (λ a. absurd (none_at at place _ a)) (λ o. (or_right _ _ (lt-ltb 0 d (omega arith)), ap (λ x. Unbalanced x) o.ends)))
     g)
 
 end_one : (p : Part) (owed : Bool) (d at : ℕ) → (owed || ltb 0 d) ≡ true → Faults p owed d at [] (Unbalanced (at + 4 * 0))
@@ -164,7 +154,7 @@ rest_has p d at w ws good fine =
     (λ place. ⊎_elim
     (λ a. ⊎_elim (λ head. absurd (both_ways (spoils d w) fine (is_spoils d w head.1))) (λ tail. inl tail)
     (first_or_later at w ws place (MisplacedFrom d) (MisplacedFrom (after d w)) (later d w fine) a))
-    (λ o. inr (record { ends = omega (arith, o.ends); left = omega (arith, o.left, balance d w fine) })))
+    (λ o. inr (record { ends = omega arith; left = omega (arith, o.left, balance d w fine) })))
 
 has_rest : (p : Part) (d at w : ℕ) (ws : List ℕ) → spoils d w ≡ false → (g : FileFault) → FaultFrom p (after d w) (at + 4) ws g → FaultFrom p d at (w ∷ ws) g
 has_rest p d at w ws fine =
@@ -172,7 +162,7 @@ has_rest p d at w ws fine =
     (λ place a. in_tail at w ws place (λ _ v. lawful p v ≡ false) (λ _ v. lawful p v ≡ false) (λ _ _ bad. bad) a)
     (λ place. ⊎_elim
     (λ a. inl (in_tail at w ws place (MisplacedFrom d) (MisplacedFrom (after d w)) (earlier d w fine) a))
-    (λ o. inr (record { ends = omega (arith, o.ends); left = omega (arith, o.left, balance d w fine) })))
+    (λ o. inr (record { ends = omega arith; left = omega (arith, o.left, balance d w fine) })))
 
 not_owed : {A : Type 0} (owed : Bool) → owed ≡ false → owed ≡ true → A
 not_owed owed f t = absurd (both_ways owed f t)

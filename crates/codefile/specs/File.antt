@@ -1,5 +1,5 @@
 -- The code file, from its bytes alone. Assumes nothing.
-use Rattle.std.specs.Prelude.{◌≡◌, ℕ, ◌+◌, ◌*◌, ◌/◌, ◌%◌, ◌≤◌, Bool, false, cond, ◌&&◌, List, [], ◌∷◌, length, take, drop, Some, None, Ok, Err, Option, Result, ◌==◌, nat_lt, slice_index}
+use Rattle.std.specs.Prelude.{◌≡◌, ℕ, ◌+◌, ◌*◌, ◌/◌, ◌%◌, ◌≤◌, Bool, false, if◌then◌else◌, not, ◌&&◌, List, [], ◌∷◌, length, take, drop, Some, None, Ok, Err, Option, Result, ◌==◌, nat_lt, slice_index}
 use Rattle.faults.specs.declared.Section.{Section}
 use Rattle.faults.specs.declared.Section.TheVariants.{Initial, Clear, Enter, Hold}
 use Rattle.faults.specs.declared.FileFault.{FileFault}
@@ -7,8 +7,12 @@ use Rattle.faults.specs.declared.FileFault.TheVariants.{TooShort, NoMark, BadPai
 use Rattle.words.specs.declared.instruction.Part.TheVariants as part
 use Rattle.codefile.specs.declared.directory.Pair.{Pair}
 use Rattle.codefile.specs.declared.directory.Directory.{Directory}
-use Rattle.codefile.specs.declared.directory.Layout.{Layout}
+use Rattle.codefile.specs.declared.parts.Parts.{Parts}
 use Rattle.codefile.specs.Parts.{Stretch, chain, judged}
+
+-- how many bytes each part has
+abbrev pub Layout : Type 0
+Layout = Parts ℕ
 
 -- four bytes, lowest first
 abbrev pub le32 : ℕ → ℕ → ℕ → ℕ → ℕ
@@ -45,11 +49,11 @@ follows before p = p.offset == end before && p.length % 4 == 0
 -- the first section whose pair breaks a rule, in a file of this size
 abbrev pub broken_pair : Directory → ℕ → Option Section
 broken_pair d size =
-    cond (d.initial.offset == 36 && d.initial.length == 8)
-    (cond (follows d.initial d.clear)
-    (cond (follows d.clear d.enter)
-    (cond (follows d.enter d.hold && end d.hold == size) None
-    (Some Hold)) (Some Enter)) (Some Clear)) (Some Initial)
+    if not (d.initial.offset == 36 && d.initial.length == 8) then Some Initial
+    else (if not (follows d.initial d.clear) then Some Clear
+    else (if not (follows d.clear d.enter) then Some Enter
+    else (if not (follows d.enter d.hold && end d.hold == size) then Some Hold
+    else None)))
 
 abbrev pub too_many : Directory → Bool
 too_many d = nat_lt 4096 ((d.clear.length + d.enter.length + d.hold.length) / 4)
@@ -57,14 +61,16 @@ too_many d = nat_lt 4096 ((d.clear.length + d.enter.length + d.hold.length) / 4)
 abbrev pub layout_in : Directory → Option Section → Result Layout FileFault
 layout_in d (Some section) = Err (BadPair section)
 layout_in d None =
-    cond (too_many d) (Err TooManyWords)
-    (Ok (record { clear = d.clear.length; enter = d.enter.length; hold = d.hold.length }))
+    if too_many d
+    then Err TooManyWords
+    else Ok (record { clear = d.clear.length; enter = d.enter.length; hold = d.hold.length })
 
 -- the parts' lengths, or the fault of the head
 abbrev pub layout_of : List ℕ → Result Layout FileFault
 layout_of bs =
-    cond (nat_lt (length bs) 36) (Err TooShort)
-    (cond (marked bs) (layout_in (directory_of bs) (broken_pair (directory_of bs) (length bs))) (Err NoMark))
+    if nat_lt (length bs) 36
+    then Err TooShort
+    else (if marked bs then layout_in (directory_of bs) (broken_pair (directory_of bs) (length bs)) else Err NoMark)
 
 -- the parts are whole words, fill the file behind the initial steps, and are at most 4,096 words
 pub record Regular (size : ℕ) (l : Layout) : Type 0 where

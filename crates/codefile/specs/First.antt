@@ -1,23 +1,22 @@
 -- The law of the first fault: of all faults that the words of a file have, the one at the least place is reported, and at
 -- one place the one with the smaller number. Assumes nothing.
-use Rattle.std.specs.Prelude.{◌≡◌, ℕ, ◌+◌, ◌*◌, ◌<◌, ◌≤◌, true, false, cond, ◌⊎◌, List, [], ◌∷◌, length, take, Ok, Err, Result, slice_index}
+use Rattle.std.specs.Prelude.{◌≡◌, ℕ, ◌+◌, ◌*◌, ◌<◌, ◌≤◌, true, false, if◌then◌else◌, ◌⊎◌, List, [], ◌∷◌, length, take, Ok, Err, Result, slice_index}
 use Rattle.faults.specs.Numbers.{file_number, file_place}
 use Rattle.faults.specs.declared.FileFault.{FileFault}
 use Rattle.faults.specs.declared.FileFault.TheVariants.{TooShort, NoMark, BadPair, TooManyWords, UnlawfulWord, Unbalanced}
 use Rattle.words.specs.Words.{lawful}
 use Rattle.words.specs.Brackets.{opens, closes}
-use Rattle.codefile.specs.declared.directory.Layout.{Layout}
 use Rattle.codefile.specs.Parts.{Stretch}
-use Rattle.codefile.specs.File.{layout_of, stretches}
+use Rattle.codefile.specs.File.{Layout, layout_of, stretches}
 
 -- how many of the words open a bracket, and how many close one
 abbrev pub opened : List ℕ → ℕ
 opened [] = 0
-opened (w ∷ ws) = cond (opens w) 1 0 + opened ws
+opened (w ∷ ws) = (if opens w then 1 else 0) + opened ws
 
 abbrev pub closed : List ℕ → ℕ
 closed [] = 0
-closed (w ∷ ws) = cond (closes w) 1 0 + closed ws
+closed (w ∷ ws) = (if closes w then 1 else 0) + closed ws
 
 -- the word at a place, of words from a start on: it and those before it are as P says
 pub record WordAt (start : ℕ) (words : List ℕ) (place : ℕ) (P : List ℕ → ℕ → Type 0) : Type 0 where

@@ -1,5 +1,5 @@
 -- What a program holds of a code file, and what a load leaves. Assumes nothing.
-use Rattle.std.specs.Prelude.{◌≡◌, ℕ, List, [], Ok, Err, vec_items, Result}
+use Rattle.std.specs.Prelude.{◌≡◌, ℕ, List, [], Ok, Err, Result}
 use Rattle.faults.specs.declared.FileFault.{FileFault}
 use Rattle.words.specs.declared.instruction.Part.{Part}
 use Rattle.words.specs.declared.instruction.Part.TheVariants as part
@@ -9,9 +9,9 @@ use Rattle.codefile.specs.File.{Code, code_of}
 abbrev pub code_in : Program → Code
 code_in p = record {
   initial = p.initial;
-  clear = vec_items p.clear;
-  enter = vec_items p.enter;
-  hold = vec_items p.hold;
+  clear = p.clear;
+  enter = p.enter;
+  hold = p.hold;
 }
 
 abbrev pub words_in : Part → Code → List ℕ

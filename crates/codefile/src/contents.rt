@@ -20,9 +20,9 @@ impl Program {
         ensures lawful_and_balanced { sound part 0 result.now ≡ true }
     {
         match part {
-            Part::Clear => &self.clear,
-            Part::Enter => &self.enter,
-            Part::Hold => &self.hold,
+            Part::Clear => self.clear.as_slice(),
+            Part::Enter => self.enter.as_slice(),
+            Part::Hold => self.hold.as_slice(),
         }
     }
 }

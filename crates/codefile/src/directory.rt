@@ -1,17 +1,18 @@
 //! The head of a code file: its mark and its directory of four pairs.
-ghost use Rattle.std.specs.Prelude.{◌≡◌, ◌+◌, ◌≤◌, length, drop, IfOk};
-ghost use Rattle.codefile.specs.File.{le32, pair_at, directory_of, follows, broken_pair, marked, layout_of, Regular};
+ghost use Rattle.std.specs.Prelude.{◌≡◌, ◌+◌, ◌≤◌, length, IfOk};
+ghost use Rattle.codefile.specs.File.{le_at, pair_at, directory_of, follows, broken_pair, layout_of, Regular};
 
+use crate::parts::Parts;
 use faults::{FileFault, Section};
 
 /// One entry of the directory.
-#[derive(Clone, Copy)]
+#[derive(Clone, Copy, PartialEq, Eq, Debug)]
 pub struct Pair {
     pub offset: u32,
     pub length: u32,
 }
 
-#[derive(Clone, Copy)]
+#[derive(Clone, Copy, PartialEq, Eq, Debug)]
 pub struct Directory {
     pub initial: Pair,
     pub clear: Pair,
@@ -19,66 +20,32 @@ pub struct Directory {
     pub hold: Pair,
 }
 
-/// How many bytes each part has.
-#[derive(Clone, Copy)]
-pub struct Layout {
-    pub clear: usize,
-    pub enter: usize,
-    pub hold: usize,
+// The number that stands at a place, its lowest byte first.
+fn number_at(bytes: &[u8], at: usize) -> u32
+    requires { at + 4 ≤ length bytes.now }
+    ensures { result ≡ le_at bytes.now at }
+{
+    u32::from_le_bytes([bytes[at], bytes[at + 1], bytes[at + 2], bytes[at + 3]])
 }
 
-// Four bytes, lowest first.
-pub(crate) fn number(a: u8, b: u8, c: u8, d: u8) -> u32
-    ensures { result ≡ le32 a b c d }
+fn pair_at(bytes: &[u8], at: usize) -> Pair
+    requires { at + 8 ≤ length bytes.now }
+    ensures { result ≡ pair_at bytes.now at }
 {
-    a as u32 + b as u32 * 256 + c as u32 * 65536 + d as u32 * 16777216
-}
-
-// The pair at the front, and the rest.
-fn read_pair(bytes: &[u8]) -> (Pair, &[u8])
-    requires { 8 ≤ length bytes.now }
-    ensures pair { result.0 ≡ pair_at bytes.now 0 }
-    ensures rest { result.1.now ≡ drop 8 bytes.now }
-    ensures shorter { length result.1.now + 8 ≡ length bytes.now }
-{
-    match bytes {
-        [a, b, c, d, e, f, g, h, rest @ ..] => {
-            let offset = number(*a, *b, *c, *d);
-            let length = number(*e, *f, *g, *h);
-            (Pair { offset, length }, rest)
-        }
-        _ => unreachable(),
+    Pair {
+        offset: number_at(bytes, at),
+        length: number_at(bytes, at + 4),
     }
 }
 
-fn read_directory(bytes: &[u8]) -> Directory
-    requires { 36 ≤ length bytes.now }
-    ensures { result ≡ directory_of bytes.now }
+fn directory_of(head: &[u8; 36]) -> Directory
+    ensures { result ≡ directory_of head.now }
 {
-    match bytes {
-        [_, _, _, _, pairs @ ..] => {
-            let (initial, rest) = read_pair(pairs);
-            let (clear, rest) = read_pair(rest);
-            let (enter, rest) = read_pair(rest);
-            let (hold, _) = read_pair(rest);
-            Directory {
-                initial,
-                clear,
-                enter,
-                hold,
-            }
-        }
-        _ => unreachable(),
-    }
-}
-
-fn is_marked(bytes: &[u8]) -> bool
-    requires { 4 ≤ length bytes.now }
-    ensures { result ≡ marked bytes.now }
-{
-    match bytes {
-        [a, b, c, d, ..] => (*a == 83) & ((*b == 82) & ((*c == 73) & (*d == 49))),
-        _ => unreachable(),
+    Directory {
+        initial: pair_at(head, 4),
+        clear: pair_at(head, 12),
+        enter: pair_at(head, 20),
+        hold: pair_at(head, 28),
     }
 }
 
@@ -86,7 +53,7 @@ fn is_marked(bytes: &[u8]) -> bool
 fn does_follow(before: Pair, pair: Pair) -> bool
     ensures { result ≡ follows before pair }
 {
-    (pair.offset as u64 == before.offset as u64 + before.length as u64) & (pair.length % 4 == 0)
+    pair.offset as u64 == before.offset as u64 + before.length as u64 && pair.length % 4 == 0
 }
 
 // The first section whose pair breaks a rule, in a file of this size.
@@ -109,17 +76,17 @@ fn broken_pair(d: Directory, size: usize) -> Option<Section>
 }
 
 // The parts' lengths, or the fault of the head: 14 to 17.
-pub(crate) fn layout_of(bytes: &[u8]) -> Result<Layout, FileFault>
+pub(crate) fn layout_of(bytes: &[u8]) -> Result<Parts<usize>, FileFault>
     ensures layout { result ≡ layout_of bytes.now }
     ensures regular { IfOk result (λ l. Regular (length bytes.now) l) }
 {
-    if bytes.len() < 36 {
+    let Some(head) = bytes.first_chunk::<36>() else {
         return Err(FileFault::TooShort);
-    }
-    if !is_marked(bytes) {
+    };
+    if !head.starts_with(b"SRI1") {
         return Err(FileFault::NoMark);
     }
-    let d = read_directory(bytes);
+    let d = directory_of(head);
     if let Some(section) = broken_pair(d, bytes.len()) {
         return Err(FileFault::BadPair(section));
     }
@@ -129,5 +96,5 @@ pub(crate) fn layout_of(bytes: &[u8]) -> Result<Layout, FileFault>
     if (clear + enter + hold) / 4 > 4096 {
         return Err(FileFault::TooManyWords);
     }
-    Ok(Layout { clear, enter, hold })
+    Ok(Parts { clear, enter, hold })
 }

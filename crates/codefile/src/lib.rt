@@ -3,6 +3,7 @@
 
 mod contents;
 mod directory;
+mod headed;
 mod load;
 mod parts;
 pub mod program;

@@ -1,11 +1,11 @@
 //! Writing a code file.
-ghost use Rattle.std.specs.Prelude.{◌≡◌, ◌+◌, ◌*◌, ◌≤◌, length, take, IfOk};
+ghost use Rattle.std.specs.Prelude.{◌≡◌, ◌+◌, ◌*◌, ◌<◌, ◌≤◌, length, take, IfOk, MatchOption};
 ghost use Rattle.codefile.specs.Written.{bytes32, word_bytes, pair_bytes, directory_bytes, section_at, directory_for, head_bytes, file_of, word_count, written, answered, buffer_after, over, code_for, LoadsBack};
 
 use crate::directory::{Directory, Pair};
 
 /// What a code file is to hold: the steps that are active first, bit n for step n, and the words of each part.
-#[derive(Clone, Copy)]
+#[derive(Clone, Copy, PartialEq, Eq, Debug)]
 pub struct Contents<'a> {
     pub initial: u64,
     pub clear: &'a [u32],
@@ -14,10 +14,17 @@ pub struct Contents<'a> {
 }
 
 /// Why a code file was not written. A buffer that is too short comes with the length needed.
-#[derive(Clone, Copy)]
+#[derive(Clone, Copy, PartialEq, Eq, Debug)]
 pub enum WriteFault {
     TooManyWords,
     BufferTooShort(usize),
+}
+
+fn put_bytes(buffer: &mut [u8], at: usize, bytes: &[u8])
+    requires { at + length bytes.now ≤ length buffer.old }
+    ensures { buffer.new ≡ over at bytes.now buffer.old }
+{
+    buffer[at..at + bytes.len()].copy_from_slice(bytes);
 }
 
 // Four bytes, lowest first.
@@ -25,7 +32,7 @@ fn put_number(buffer: &mut [u8], at: usize, n: u32)
     requires { at + 4 ≤ length buffer.old }
     ensures { buffer.new ≡ over at (bytes32 n) buffer.old }
 {
-    buffer[at..at + 4].copy_from_slice(&n.to_le_bytes());
+    put_bytes(buffer, at, &n.to_le_bytes());
 }
 
 fn put_pair(buffer: &mut [u8], at: usize, pair: Pair)
@@ -50,10 +57,8 @@ fn put_words(buffer: &mut [u8], at: usize, words: &[u32])
     requires { at + 4 * length words.now ≤ length buffer.old }
     ensures { buffer.new ≡ over at (word_bytes words.now) buffer.old }
 {
-    let mut place = at;
-    for word in words {
-        put_number(buffer, place, *word);
-        place += 4;
+    for (i, word) in words.iter().enumerate() {
+        put_number(buffer, at + 4 * i, *word);
     }
 }
 
@@ -62,10 +67,9 @@ fn put_head(buffer: &mut [u8], d: Directory, initial: u64)
     requires { 44 ≤ length buffer.old }
     ensures { buffer.new ≡ over 0 (head_bytes d initial) buffer.old }
 {
-    buffer[0..4].copy_from_slice(b"SRI1");
+    put_bytes(buffer, 0, b"SRI1");
     put_directory(buffer, d);
-    put_number(buffer, 36, (initial % 4294967296) as u32);
-    put_number(buffer, 40, (initial / 4294967296) as u32);
+    put_bytes(buffer, 36, &initial.to_le_bytes());
 }
 
 // The section of these words, at an offset.
@@ -77,46 +81,62 @@ fn section(offset: u32, words: &[u32]) -> Pair
     Pair { offset, length }
 }
 
-fn directory_for(contents: Contents<'_>) -> Directory
-    requires { word_count (code_for contents) ≤ 4096 }
-    ensures { result ≡ directory_for (code_for contents.entry) }
-{
-    let initial = Pair {
-        offset: 36,
-        length: 8,
-    };
-    let clear = section(44, contents.clear);
-    let enter = section(44 + clear.length, contents.enter);
-    let hold = section(enter.offset + enter.length, contents.hold);
-    Directory {
-        initial,
-        clear,
-        enter,
-        hold,
+// Contents of at most 4,096 words, which a code file can hold.
+#[derive(Clone, Copy)]
+struct Fitting<'a> {
+    contents: Contents<'a>,
+    ghost few: { word_count (code_for contents) ≤ 4096 },
+}
+
+impl<'a> Fitting<'a> {
+    fn new(contents: Contents<'a>) -> Option<Fitting<'a>>
+        ensures { MatchOption result (4096 < word_count (code_for contents.entry)) (λ f. f.contents ≡ contents.entry) }
+    {
+        if contents.clear.len() + contents.enter.len() + contents.hold.len() > 4096 {
+            return None;
+        }
+        Some(Fitting { contents })
     }
-}
 
-// The length of the file of at most 4,096 words.
-fn file_length(contents: Contents<'_>) -> usize
-    requires { word_count (code_for contents) ≤ 4096 }
-    ensures file { result ≡ length (file_of (code_for contents.entry)) }
-    ensures words { result ≡ 44 + 4 * word_count (code_for contents.entry) }
-{
-    44 + 4 * (contents.clear.len() + contents.enter.len() + contents.hold.len())
-}
+    fn directory(&self) -> Directory
+        ensures { result ≡ directory_for (code_for self.now.contents) }
+    {
+        let initial = Pair {
+            offset: 36,
+            length: 8,
+        };
+        let clear = section(44, self.contents.clear);
+        let enter = section(44 + clear.length, self.contents.enter);
+        let hold = section(enter.offset + enter.length, self.contents.hold);
+        Directory {
+            initial,
+            clear,
+            enter,
+            hold,
+        }
+    }
 
-fn put_file(buffer: &mut [u8], contents: Contents<'_>)
-    requires few { word_count (code_for contents) ≤ 4096 }
-    requires room { 44 + 4 * word_count (code_for contents) ≤ length buffer.old }
-    ensures file { buffer.new ≡ over 0 (file_of (code_for contents.entry)) buffer.old }
-    ensures loads_back { LoadsBack (code_for contents.entry) (take (length (file_of (code_for contents.entry))) buffer.new) }
-{
-    put_head(buffer, directory_for(contents), contents.initial);
-    put_words(buffer, 44, contents.clear);
-    let enter = 44 + 4 * contents.clear.len();
-    put_words(buffer, enter, contents.enter);
-    let hold = enter + 4 * contents.enter.len();
-    put_words(buffer, hold, contents.hold);
+    // The length of the file.
+    fn len(&self) -> usize
+        ensures file { result ≡ length (file_of (code_for self.now.contents)) }
+        ensures words { result ≡ 44 + 4 * word_count (code_for self.now.contents) }
+    {
+        44 + 4 * (self.contents.clear.len() + self.contents.enter.len() + self.contents.hold.len())
+    }
+
+    // Puts the file at the beginning.
+    fn put(&self, buffer: &mut [u8])
+        requires { 44 + 4 * word_count (code_for self.now.contents) ≤ length buffer.old }
+        ensures file { buffer.new ≡ over 0 (file_of (code_for self.now.contents)) buffer.old }
+        ensures loads_back { LoadsBack (code_for self.now.contents) (take (length (file_of (code_for self.now.contents))) buffer.new) }
+    {
+        put_head(buffer, self.directory(), self.contents.initial);
+        put_words(buffer, 44, self.contents.clear);
+        let enter = 44 + 4 * self.contents.clear.len();
+        put_words(buffer, enter, self.contents.enter);
+        let hold = enter + 4 * self.contents.enter.len();
+        put_words(buffer, hold, self.contents.hold);
+    }
 }
 
 /// Writes a code file at the beginning of the buffer and answers its length; the rest of the buffer stays as it was.
@@ -126,13 +146,11 @@ pub fn write(contents: Contents<'_>, buffer: &mut [u8]) -> Result<usize, WriteFa
     ensures buffer { buffer.new ≡ buffer_after (written (code_for contents.entry) (length buffer.old)) buffer.old }
     ensures loads_back { IfOk result (λ n. LoadsBack (code_for contents.entry) (take n buffer.new)) }
 {
-    if contents.clear.len() + contents.enter.len() + contents.hold.len() > 4096 {
-        return Err(WriteFault::TooManyWords);
-    }
-    let length = file_length(contents);
+    let file = Fitting::new(contents).ok_or(WriteFault::TooManyWords)?;
+    let length = file.len();
     if buffer.len() < length {
         return Err(WriteFault::BufferTooShort(length));
     }
-    put_file(buffer, contents);
+    file.put(buffer);
     Ok(length)
 }

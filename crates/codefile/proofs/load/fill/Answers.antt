@@ -1,13 +1,10 @@
-use Rattle.std.proofs.Common.{◌≤◌, length, vec_items, ◌∙◌, rules}
-use Rattle.codefile.proofs.Scans.{words_push}
+use Rattle.std.proofs.Common.{◌∙◌, ap, map, w32, arith}
+use Rattle.std.specs.Int.{from_le_bytes}
+use Rattle.std.proofs.lemmas.List.{take_all}
+use Rattle.codefile.proofs.Scans.{words_are}
 use Rattle.codefile.proofs.load.fill.Goals as goal
 
-pub loop-rest-preserved : goal.loop-rest-preserved
-loop-rest-preserved c =
-    let four : 4 ≤ length c.loop-rest.rest.now = search rules in
-    let pushed = c.push_reserved.ensures in (
-      words_push c.loop-rest.rest.now (vec_items c.loop-rest.words) (vec_items c.push_reserved.new.self) c.number.result
-          four (search rules) pushed.items ∙ c.loop-rest.invariant.0,
-      pushed.capacity ∙ c.loop-rest.invariant.1,
-      search rules,
-    )
+pub returns : goal.returns
+returns g c =
+    let all = c.as_chunks.result.0.now in
+    c.loop-word.invariant ∙ ap (map (from_le_bytes w32)) (take_all c.loop-word.word-index all (omega arith)) ∙ words_are c.args.bytes.now all c.as_chunks.ensures.front

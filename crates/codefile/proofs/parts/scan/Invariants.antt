@@ -1,12 +1,10 @@
-use Rattle.std.proofs.Common.{◌≡◌, ◌+◌, ◌^◌, ◌<◌, length}
+use Rattle.std.proofs.Common.{◌≡◌, ◌+◌, ◌*◌, map, drop, w32}
+use Rattle.std.specs.Int.{from_le_bytes}
 use Rattle.codefile.specs.Parts.{scanned}
 use Rattle.codefile.specs.File.{words_of}
 use Rattle.codefile.proofs.parts.scan.Given as goal
 
-abbrev pub invariant-loop-rest : goal.invariant-loop-rest
-invariant-loop-rest l =
-    (l.place + length l.rest < 2 ^ 64) ×
-    (scanned l.part l.place l.owed l.depth (words_of l.rest) ≡ scanned l.part l.start l.before 0 (words_of l.bytes))
-
-abbrev pub decreases-loop-rest : goal.decreases-loop-rest
-decreases-loop-rest l = length l.rest
+-- a scan of the words that are left, from here on, gives that of all
+abbrev pub invariant-loop-i : goal.invariant-loop-i
+invariant-loop-i l =
+    scanned l.part (l.start + 4 * l.i) l.owed l.depth (map (from_le_bytes w32) (drop l.i l.words)) ≡ scanned l.part l.start l.before 0 (words_of l.bytes)
