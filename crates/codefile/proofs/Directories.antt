@@ -1,9 +1,13 @@
 -- The head of a file, read from its first 36 bytes. Assumes nothing.
+use Rattle.std.proofs.Common.{add-zero, add_assoc, drop}
+use Rattle.std.proofs.lemmas.List.{drop-drop, get_or-drop}
+use Rattle.codefile.specs.declared.directory.Pair.{Pair}
+use Rattle.codefile.specs.declared.directory.Directory.{Directory}
 use Rattle.std.proofs.Common.{◌≡◌, ℕ, ◌+◌, ◌<◌, ◌≤◌, List, length, take, Err, ap, sym, ◌∙◌, arith, if◌then◌else◌}
 use Rattle.std.proofs.lemmas.List.{get_or-take}
 use Rattle.std.proofs.lemmas.Bool.{cond-false, le-ltb}
 use Rattle.faults.specs.declared.FileFault.TheVariants.{NoMark}
-use Rattle.codefile.specs.File.{le_at, directory_of, marked, broken_pair, layout_in, layout_of}
+use Rattle.codefile.specs.File.{le_at, pair_at, directory_of, marked, broken_pair, layout_in, layout_of}
 
 le_front : (bs : List ℕ) (i : ℕ) → i + 3 < 36 → le_at (take 36 bs) i ≡ le_at bs i
 le_front bs i h =
@@ -24,3 +28,25 @@ head_reads bs hd long e =
     cond-false _ _ _ (le-ltb (length bs) 36 long)
     ∙ ap (λ d. if marked bs then layout_in d (broken_pair d (length bs)) else Err NoMark) (sym read)
     ∙ ap (λ b. if b then layout_in (directory_of hd) (broken_pair (directory_of hd) (length bs)) else Err NoMark) (sym same)
+
+-- ---- the pairs, one behind the other
+abbrev of : ℕ → ℕ → Pair
+of o l = record { offset = o; length = l }
+
+pub pair_of : {o l x y : ℕ} → o ≡ x → l ≡ y → of o l ≡ of x y
+pair_of {o} {l} {x} {y} e f = ap (λ v. of v l) e ∙ ap (λ v. of x v) f
+
+-- where the front k bytes are gone, the first pair is the one at k
+pub pair_drop : (k : ℕ) (xs ys : List ℕ) (p : Pair) → ys ≡ drop k xs → p ≡ pair_at ys 0 → p ≡ pair_at xs k
+pair_drop k xs ys p e f = f ∙ ap (λ zs. pair_at zs 0) e ∙ simp (get_or-drop, add-zero, add_assoc)
+
+pub rest_drop : (k : ℕ) (xs ys zs : List ℕ) → ys ≡ drop k xs → zs ≡ drop 8 ys → zs ≡ drop (k + 8) xs
+rest_drop k xs ys zs e f = f ∙ ap (drop 8) e ∙ drop-drop 8 k xs
+
+abbrev all : Pair → Pair → Pair → Pair → Directory
+all a b c d = record { initial = a; clear = b; enter = c; hold = d }
+
+pub directory_is : (bs : List ℕ) (a b c d : Pair) → a ≡ pair_at bs 4 → b ≡ pair_at bs 12 → c ≡ pair_at bs 20 → d ≡ pair_at bs 28 → all a b c d ≡ directory_of bs
+directory_is bs a b c d e f g h =
+    ap (λ x. all x b c d) e ∙ ap (λ x. all (pair_at bs 4) x c d) f ∙ ap (λ x. all (pair_at bs 4) (pair_at bs 12) x d) g
+    ∙ ap (λ x. all (pair_at bs 4) (pair_at bs 12) (pair_at bs 20) x) h

@@ -1,8 +1,6 @@
 -- One word of a part, as the scan meets it. Assumes nothing.
-use Rattle.std.proofs.Common.{◌≡◌, ℕ, suc, ◌+◌, ◌*◌, ◌/◌, ◌<◌, Bool, true, false, cond, ◌||◌, eqb, ltb, List, [], ◌∷◌, length, drop, map, get_or, Ok, Err, Result, refl, sym, ap, ◌∙◌, w32, arith}
-use Rattle.std.proofs.lemmas.List.{drop_more}
-use Rattle.std.specs.Int.{from_le_bytes}
-use Rattle.std.specs.Simd.{first_chunks}
+use Rattle.std.proofs.Common.{◌≡◌, ℕ, ◌+◌, ◌-◌, ◌≤◌, Bool, true, false, cond, ◌||◌, eqb, ltb, List, [], ◌∷◌, ◌++◌, length, take, drop, Ok, Err, Result, refl, sym, ap, ◌∙◌, arith}
+use Rattle.std.proofs.lemmas.List.{take_rest, append_assoc}
 use Rattle.std.proofs.lemmas.Bool.{cond-true, cond-false, or_parts, and_from, and_parts, not_from_false, not-true, ltb-false, le-ltb, eq-eqb, eqb-true}
 use Rattle.words.specs.declared.instruction.Part.{Part}
 use Rattle.words.specs.Words.{lawful}
@@ -10,34 +8,38 @@ use Rattle.words.specs.Brackets.{spoils, after, sound}
 use Rattle.faults.specs.declared.FileFault.{FileFault}
 use Rattle.faults.specs.declared.FileFault.TheVariants.{Unbalanced}
 use Rattle.codefile.specs.Parts.{scanned}
-use Rattle.codefile.specs.File.{le32, words_of}
+use Rattle.codefile.specs.File.{le32, le_at, words_of}
 use Rattle.codefile.proofs.Verdicts.{refused_not, ok_is}
 
--- the words of bytes, four by four
-words_of_chunks : (bs : List ℕ) (n : ℕ) → n ≡ length bs / 4 → map (from_le_bytes w32) (first_chunks 4 n bs) ≡ words_of bs
-words_of_chunks [] n h = let none : n ≡ 0 = omega arith in rw none
-words_of_chunks (a ∷ []) n h = let none : n ≡ 0 = omega arith in rw none
-words_of_chunks (a ∷ (b ∷ [])) n h = let none : n ≡ 0 = omega arith in rw none
-words_of_chunks (a ∷ (b ∷ (c ∷ []))) n h = let none : n ≡ 0 = omega arith in rw none
-words_of_chunks (a ∷ (b ∷ (c ∷ (d ∷ rest)))) n h =
-    let one : n ≡ suc (length rest / 4) = omega arith in
-    rw one (ap (λ ws. le32 a b c d ∷ ws) (words_of_chunks rest (length rest / 4) refl))
+-- the first word, and the rest as the checker reads it
+pub words_more : (xs : List ℕ) → 4 ≤ length xs → words_of xs ≡ le_at xs 0 ∷ words_of (take (length xs - 4) (drop 4 xs))
+words_more [] h = absurd (omega arith)
+words_more (a ∷ []) h = absurd (omega arith)
+words_more (a ∷ (b ∷ [])) h = absurd (omega arith)
+words_more (a ∷ (b ∷ (c ∷ []))) h = absurd (omega arith)
+words_more (a ∷ (b ∷ (c ∷ (d ∷ rest)))) h = ap (λ ys. le32 a b c d ∷ words_of ys) (sym (take_rest (a ∷ (b ∷ (c ∷ (d ∷ rest)))) 4))
 
-pub words_are : (bs : List ℕ) (words : List (List ℕ)) → words ≡ first_chunks 4 (length bs / 4) bs → map (from_le_bytes w32) words ≡ words_of bs
-words_are bs words e = ap (map (from_le_bytes w32)) e ∙ words_of_chunks bs (length bs / 4) refl
-
--- one word more
-pub scan_more : (p : Part) (start : ℕ) (owed : Bool) (depth next : ℕ) (words : List (List ℕ)) (i : ℕ) (w : ℕ) → i < length words → w ≡ from_le_bytes w32 (get_or words i []) → lawful p w ≡ true → owed ≡ false → spoils depth w ≡ false → next ≡ after depth w → scanned p (start + 4 * (i + 1)) false next (map (from_le_bytes w32) (drop (i + 1) words)) ≡ scanned p (start + 4 * i) owed depth (map (from_le_bytes w32) (drop i words))
-scan_more p start owed depth next words i w inside e good none fine is =
-    let rest = map (from_le_bytes w32) (drop (i + 1) words) in
-    let at : start + 4 * (i + 1) ≡ start + 4 * i + 4 = omega arith in
-    ap (λ d. scanned p (start + 4 * (i + 1)) false d rest) is
-    ∙ ap (λ a. scanned p a false (after depth w) rest) at
-    ∙ sym (ap (λ ws. scanned p (start + 4 * i) owed depth (map (from_le_bytes w32) ws)) (drop_more words i [] inside)
-    ∙ ap (λ v. scanned p (start + 4 * i) owed depth (v ∷ rest)) (sym e)
+pub scan_more : (p : Part) (at : ℕ) (owed : Bool) (depth : ℕ) (xs : List ℕ) → 4 ≤ length xs → (w : ℕ) → w ≡ le_at xs 0 → lawful p w ≡ true → owed ≡ false → spoils depth w ≡ false → (next : ℕ) → next ≡ after depth w → scanned p (at + 4) false next (words_of (take (length xs - 4) (drop 4 xs))) ≡ scanned p at owed depth (words_of xs)
+scan_more p at owed depth xs h w e good none fine next is =
+    let rest = words_of (take (length xs - 4) (drop 4 xs)) in
+    ap (λ d. scanned p (at + 4) false d rest) is
+    ∙ sym (ap (scanned p at owed depth) (words_more xs h ∙ ap (λ v. v ∷ rest) (sym e))
     ∙ cond-true (lawful p w) _ _ good
-    ∙ ap (λ o. cond (o || spoils depth w) (Err (Unbalanced (start + 4 * i))) (scanned p (start + 4 * i + 4) false (after depth w) rest)) none
+    ∙ ap (λ o. cond (o || spoils depth w) (Err (Unbalanced at)) (scanned p (at + 4) false (after depth w) rest)) none
     ∙ cond-false (spoils depth w) _ _ fine)
+
+pub scan_owed : (p : Part) (at : ℕ) (owed : Bool) (depth : ℕ) (xs : List ℕ) → 4 ≤ length xs → (w : ℕ) → w ≡ le_at xs 0 → lawful p w ≡ true → (owed || spoils depth w) ≡ true → scanned p at owed depth (words_of xs) ≡ Err (Unbalanced at)
+scan_owed p at owed depth xs h w e good bad =
+    ap (scanned p at owed depth) (words_more xs h ∙ ap (λ v. v ∷ words_of (take (length xs - 4) (drop 4 xs))) (sym e))
+    ∙ cond-true (lawful p w) _ _ good
+    ∙ cond-true (owed || spoils depth w) _ _ bad
+
+pub words_push : (xs done next : List ℕ) (w : ℕ) → 4 ≤ length xs → w ≡ le_at xs 0 → next ≡ done ++ (w ∷ []) → next ++ words_of (take (length xs - 4) (drop 4 xs)) ≡ done ++ words_of xs
+words_push xs done next w h e f =
+    let rest = words_of (take (length xs - 4) (drop 4 xs)) in
+    ap (λ v. v ++ rest) f
+    ∙ append_assoc done (w ∷ []) rest
+    ∙ ap (λ ys. done ++ ys) (ap (λ v. v ∷ rest) e ∙ sym (words_more xs h))
 
 zero_depth : (depth : ℕ) → ltb 0 depth ≡ false → eqb depth 0 ≡ true
 zero_depth depth e = eq-eqb depth 0 (omega (arith, ltb-false 0 depth e))

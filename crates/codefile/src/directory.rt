@@ -1,6 +1,6 @@
 //! The head of a code file: its mark and its directory of four pairs.
-ghost use Rattle.std.specs.Prelude.{◌≡◌, ◌+◌, ◌≤◌, length, IfOk};
-ghost use Rattle.codefile.specs.File.{le_at, pair_at, directory_of, follows, broken_pair, layout_of, Regular};
+ghost use Rattle.std.specs.Prelude.{◌≡◌, ◌+◌, ◌≤◌, length, drop, IfOk};
+ghost use Rattle.codefile.specs.File.{le32, pair_at, directory_of, follows, broken_pair, layout_of, Regular};
 
 use crate::parts::Parts;
 use faults::{FileFault, Section};
@@ -20,32 +20,42 @@ pub struct Directory {
     pub hold: Pair,
 }
 
-// The number that stands at a place, its lowest byte first.
-fn number_at(bytes: &[u8], at: usize) -> u32
-    requires { at + 4 ≤ length bytes.now }
-    ensures { result ≡ le_at bytes.now at }
+// Four bytes, lowest first.
+pub(crate) fn number(a: u8, b: u8, c: u8, d: u8) -> u32
+    ensures { result ≡ le32 a b c d }
 {
-    u32::from_le_bytes([bytes[at], bytes[at + 1], bytes[at + 2], bytes[at + 3]])
+    u32::from_le_bytes([a, b, c, d])
 }
 
-fn pair_at(bytes: &[u8], at: usize) -> Pair
-    requires { at + 8 ≤ length bytes.now }
-    ensures { result ≡ pair_at bytes.now at }
+// The pair at the front, and the rest.
+fn read_pair(bytes: &[u8]) -> (Pair, &[u8])
+    requires { 8 ≤ length bytes.now }
+    ensures pair { result.0 ≡ pair_at bytes.now 0 }
+    ensures rest { result.1.now ≡ drop 8 bytes.now }
+    ensures shorter { length result.1.now + 8 ≡ length bytes.now }
 {
-    Pair {
-        offset: number_at(bytes, at),
-        length: number_at(bytes, at + 4),
+    match bytes {
+        [a, b, c, d, e, f, g, h, rest @ ..] => {
+            let offset = number(*a, *b, *c, *d);
+            let length = number(*e, *f, *g, *h);
+            (Pair { offset, length }, rest)
+        }
+        _ => unreachable(),
     }
 }
 
 fn directory_of(head: &[u8; 36]) -> Directory
     ensures { result ≡ directory_of head.now }
 {
+    let (initial, rest) = read_pair(&head[4..]);
+    let (clear, rest) = read_pair(rest);
+    let (enter, rest) = read_pair(rest);
+    let (hold, _) = read_pair(rest);
     Directory {
-        initial: pair_at(head, 4),
-        clear: pair_at(head, 12),
-        enter: pair_at(head, 20),
-        hold: pair_at(head, 28),
+        initial,
+        clear,
+        enter,
+        hold,
     }
 }
 

@@ -4,6 +4,7 @@ ghost use Rattle.codefile.specs.File.{words_of, checked, contents};
 ghost use Rattle.codefile.specs.First.{FirstFault};
 ghost use Rattle.codefile.specs.Loads.{Loads, code_in, no_code};
 
+use crate::directory::number;
 use crate::headed::Headed;
 use crate::program::Program;
 use faults::FileFault;
@@ -16,9 +17,10 @@ fn fill<const N: usize>(words: &mut Reserved<u32, N>, bytes: &[u8])
     ensures { words.new ≡ words_of bytes.now }
 {
     words.clear();
-    let (all, _) = bytes.as_chunks::<4>();
-    for word in all {
-        words.push(u32::from_le_bytes(*word)).unwrap();
+    let mut left = bytes;
+    while let [a, b, c, d, rest @ ..] = left {
+        words.push(number(*a, *b, *c, *d)).unwrap();
+        left = rest;
     }
 }
 

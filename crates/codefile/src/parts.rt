@@ -4,6 +4,7 @@ ghost use Rattle.words.specs.Brackets.{spoils, after};
 ghost use Rattle.codefile.specs.Parts.{scanned};
 ghost use Rattle.codefile.specs.File.{words_of};
 
+use crate::directory::number;
 use faults::FileFault;
 use words::codec::is_lawful;
 use words::instruction::Part;
@@ -43,12 +44,12 @@ pub(crate) fn scan(part: Part, bytes: &[u8], start: usize, before: bool) -> Resu
     requires { start + length bytes.now < 2 ^ 64 }
     ensures { result ≡ scanned part start before 0 (words_of bytes.now) }
 {
-    let (words, _) = bytes.as_chunks::<4>();
+    let mut left = bytes;
     let mut owed = before;
     let mut depth: usize = 0;
-    for (i, word) in words.iter().enumerate() {
-        let place = start + 4 * i;
-        let word = u32::from_le_bytes(*word);
+    while let [a, b, c, d, rest @ ..] = left {
+        let place = start + (bytes.len() - left.len());
+        let word = number(*a, *b, *c, *d);
         if !is_lawful(part, word) {
             return Err(FileFault::UnlawfulWord(place));
         }
@@ -57,6 +58,7 @@ pub(crate) fn scan(part: Part, bytes: &[u8], start: usize, before: bool) -> Resu
         }
         depth = depth_after(depth, word);
         owed = false;
+        left = rest;
     }
     Ok(owed || depth > 0)
 }

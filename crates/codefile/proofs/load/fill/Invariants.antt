@@ -1,6 +1,10 @@
-use Rattle.std.proofs.Common.{◌≡◌, map, take, w32}
-use Rattle.std.specs.Int.{from_le_bytes}
+use Rattle.std.proofs.Common.{◌≡◌, ◌+◌, ◌*◌, ◌≤◌, ◌++◌, length}
+use Rattle.codefile.specs.File.{words_of}
 use Rattle.codefile.proofs.load.fill.Given as goal
 
-abbrev pub invariant-loop-word : goal.invariant-loop-word
-invariant-loop-word g l = l.words ≡ map (from_le_bytes w32) (take l.word-index l.all)
+-- the words that are read, and those of the bytes that are left
+abbrev pub invariant-loop-left : goal.invariant-loop-left
+invariant-loop-left g l = (l.words ++ words_of l.left ≡ words_of l.bytes) × (length l.left + 4 * length l.words ≤ length l.bytes)
+
+abbrev pub decreases-loop-left : goal.decreases-loop-left
+decreases-loop-left g l = length l.left
