@@ -6,6 +6,7 @@ ghost use Rattle.lines.specs.Parts.{counted, numbers_in};
 ghost use Rattle.lines.specs.Guards.{step_test, step_tests};
 
 use crate::shape::Number;
+use conditions::rest::small;
 use text::token::{Letter, Token, TokenKind};
 use words::instruction::{Instruction, Operand};
 use words::list::WordList;
@@ -33,10 +34,7 @@ pub fn step_named(token: Token) -> Option<Number>
 fn up_to_63(n: u16, place: usize) -> Option<Number>
     ensures { MatchOption result (up_to63 place n ≡ []) (λ m. up_to63 place n ≡ m ∷ []) }
 {
-    if n > 63 {
-        return None;
-    }
-    let value = n as u8;
+    let value = small(n, place).ok()?;
     Some(Number { value, place })
 }
 
