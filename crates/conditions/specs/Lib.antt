@@ -1,4 +1,5 @@
 pub mod Tree
 pub mod Scan
 pub mod Read
+pub mod Readers
 pub mod Laws

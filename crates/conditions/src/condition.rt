@@ -6,7 +6,8 @@ ghost use Rattle.words.specs.Emitted.{kept_in};
 ghost use Rattle.conditions.specs.Tree.{loaded};
 ghost use Rattle.conditions.specs.Scan.{condition_of, fails};
 ghost use Rattle.conditions.specs.Laws.{Wholly, Only, Nowhere, Stuck};
-ghost use Rattle.conditions.specs.Read.{ReadsAtom, ReadsPrimary, ReadsFactor, ReadsTerm, ReadsCondition, NoAtom, NoPrimary, NoFactor, NoTerm, NoCond, Lacks};
+ghost use Rattle.conditions.specs.Read.{Lacks};
+ghost use Rattle.conditions.specs.Readers.{ReadsAtom, ReadsPrimary, ReadsFactor, ReadsTerm, ReadsCondition, NoAtom, NoPrimary, NoFactor, NoTerm, NoCond};
 
 use crate::depth::Depth;
 use crate::rest::{Rest, small};
@@ -47,8 +48,7 @@ pub fn read_condition<'a>(input: Rest<'a>, out: &mut WordList) -> Result<Rest<'a
 
 #[cycle(condition_factor_primary_term)]
 fn condition<'a>(input: Rest<'a>, depth: Depth, out: &mut WordList) -> Result<Rest<'a>, TextFault>
-    ensures reads { MatchResult result (λ rest. ReadsCondition depth.brackets input.entry.end input.entry.tokens.now (kept_in out.old) rest.tokens.now (kept_in out.new)) (λ f. NoCond depth.brackets input.entry.end input.entry.tokens.now f) }
-    ensures same_end { IfOk result (λ rest. rest.end ≡ input.entry.end) }
+    ensures { MatchResult result (λ rest. ReadsCondition depth.brackets input.entry (kept_in out.old) rest (kept_in out.new)) (λ f. NoCond depth.brackets input.entry f) }
 {
     let mut rest = term(input, depth, out)?;
     while let Some(after) = rest.behind(TokenKind::Plus) {
@@ -61,8 +61,7 @@ fn condition<'a>(input: Rest<'a>, depth: Depth, out: &mut WordList) -> Result<Re
 
 #[cycle(condition_factor_primary_term)]
 fn term<'a>(input: Rest<'a>, depth: Depth, out: &mut WordList) -> Result<Rest<'a>, TextFault>
-    ensures reads { MatchResult result (λ rest. ReadsTerm depth.brackets input.entry.end input.entry.tokens.now (kept_in out.old) rest.tokens.now (kept_in out.new)) (λ f. NoTerm depth.brackets input.entry.end input.entry.tokens.now f) }
-    ensures same_end { IfOk result (λ rest. rest.end ≡ input.entry.end) }
+    ensures { MatchResult result (λ rest. ReadsTerm depth.brackets input.entry (kept_in out.old) rest (kept_in out.new)) (λ f. NoTerm depth.brackets input.entry f) }
 {
     let mut rest = factor(input, depth, out)?;
     while let Some(after) = rest.behind(TokenKind::Dot) {
@@ -75,8 +74,7 @@ fn term<'a>(input: Rest<'a>, depth: Depth, out: &mut WordList) -> Result<Rest<'a
 
 #[cycle(condition_factor_primary_term)]
 fn factor<'a>(input: Rest<'a>, depth: Depth, out: &mut WordList) -> Result<Rest<'a>, TextFault>
-    ensures reads { MatchResult result (λ rest. ReadsFactor depth.brackets input.entry.end input.entry.tokens.now (kept_in out.old) rest.tokens.now (kept_in out.new)) (λ f. NoFactor depth.brackets input.entry.end input.entry.tokens.now f) }
-    ensures same_end { IfOk result (λ rest. rest.end ≡ input.entry.end) }
+    ensures { MatchResult result (λ rest. ReadsFactor depth.brackets input.entry (kept_in out.old) rest (kept_in out.new)) (λ f. NoFactor depth.brackets input.entry f) }
 {
     match input.behind(TokenKind::Bang) {
         Some(after) => primary(after, true, depth, out),
@@ -91,8 +89,7 @@ fn primary<'a>(
     depth: Depth,
     out: &mut WordList,
 ) -> Result<Rest<'a>, TextFault>
-    ensures reads { MatchResult result (λ rest. ReadsPrimary negated depth.brackets input.entry.end input.entry.tokens.now (kept_in out.old) rest.tokens.now (kept_in out.new)) (λ f. NoPrimary negated depth.brackets input.entry.end input.entry.tokens.now f) }
-    ensures same_end { IfOk result (λ rest. rest.end ≡ input.entry.end) }
+    ensures { MatchResult result (λ rest. ReadsPrimary negated depth.brackets input.entry (kept_in out.old) rest (kept_in out.new)) (λ f. NoPrimary negated depth.brackets input.entry f) }
 {
     let Some(after) = input.behind(TokenKind::Open) else {
         let (atom, rest) = operand(input)?;
@@ -113,8 +110,7 @@ fn primary<'a>(
 // A primary that is no bracket.
 fn operand<'a>(input: Rest<'a>) -> Result<(Atom, Rest<'a>), TextFault>
     requires { Lacks Open input.tokens.now }
-    ensures reads { MatchResult result (λ p. ReadsAtom input.entry.end input.entry.tokens.now p.0 p.1.tokens.now) (λ f. NoAtom input.entry.end input.entry.tokens.now f) }
-    ensures same_end { IfOk result (λ p. p.1.end ≡ input.entry.end) }
+    ensures { MatchResult result (λ p. ReadsAtom input.entry p.0 p.1) (λ f. NoAtom input.entry f) }
 {
     let (first, after) = input.next()?;
     match first.kind {

@@ -1,7 +1,7 @@
 //! What is left of a text while it is read.
-ghost use Rattle.std.specs.Prelude.{◌≡◌, ◌≤◌, ◌∷◌, IfOk, MatchOption, MatchResult};
+ghost use Rattle.std.specs.Prelude.{◌≡◌, ◌≤◌, MatchOption, MatchResult};
 ghost use Rattle.faults.specs.declared.TextFault.TheVariants.{NumberTooLarge};
-ghost use Rattle.conditions.specs.Read.{Lacks, Heads, placed, TakesOperand, LacksOperand, NoneLeft};
+ghost use Rattle.conditions.specs.Read.{Lacks, placed};
 
 use faults::TextFault;
 use text::token::{Letter, Token, TokenKind};
@@ -14,6 +14,8 @@ pub struct Rest<'a> {
 }
 
 impl<'a> Rest<'a> {
+    ghost use Rattle.conditions.specs.Readers.{Takes, NoneLeft, Behind, TakesOperand, LacksOperand};
+
     /// Where the next token begins.
     pub fn place(self) -> usize
         ensures { result ≡ placed self.entry.tokens.now self.entry.end }
@@ -26,8 +28,7 @@ impl<'a> Rest<'a> {
 
     /// The next token, and what is left behind it.
     pub fn next(self) -> Result<(Token, Rest<'a>), TextFault>
-        ensures token { MatchResult result (λ p. self.entry.tokens.now ≡ p.0 ∷ p.1.tokens.now) (λ f. NoneLeft self.entry.tokens.now self.entry.end f) }
-        ensures same_end { IfOk result (λ p. p.1.end ≡ self.entry.end) }
+        ensures { MatchResult result (λ p. Takes self.entry p.0 p.1) (λ f. NoneLeft self.entry f) }
     {
         let Some((first, tokens)) = self.tokens.split_first() else {
             return Err(TextFault::Unexpected(self.end));
@@ -38,7 +39,7 @@ impl<'a> Rest<'a> {
 
     /// What stands behind the sign, if the next token is one.
     pub fn behind(self, sign: TokenKind) -> Option<Rest<'a>>
-        ensures { MatchOption result (Lacks sign self.entry.tokens.now) (λ rest. Heads sign self.entry.tokens.now rest.tokens.now × (rest.end ≡ self.entry.end)) }
+        ensures { MatchOption result (Lacks sign self.entry.tokens.now) (λ rest. Behind sign self.entry rest) }
     {
         let (first, tokens) = self.tokens.split_first()?;
         if first.kind == sign {
@@ -51,8 +52,7 @@ impl<'a> Rest<'a> {
 
     /// The number of an operand with this letter, and what is left behind it.
     pub fn operand(self, letter: Letter) -> Result<(u8, Rest<'a>), TextFault>
-        ensures operand { MatchResult result (λ p. TakesOperand letter self.entry.tokens.now p.0 p.1.tokens.now) (λ f. LacksOperand letter self.entry.tokens.now self.entry.end f) }
-        ensures same_end { IfOk result (λ p. p.1.end ≡ self.entry.end) }
+        ensures { MatchResult result (λ p. TakesOperand letter self.entry p.0 p.1) (λ f. LacksOperand letter self.entry f) }
     {
         let (first, rest) = self.next()?;
         match first.kind {

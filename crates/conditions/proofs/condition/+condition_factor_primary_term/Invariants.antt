@@ -1,6 +1,5 @@
-use Rattle.std.proofs.Common.{◌≡◌, ◌+◌, ◌*◌, ◌≤◌, List, length}
-use Rattle.text.specs.declared.token.Token.{Token}
-use Rattle.words.specs.Emitted.{Kept, kept_in}
+use Rattle.std.proofs.Common.{◌+◌, ◌*◌, length}
+use Rattle.words.specs.Emitted.{kept_in}
 use Rattle.conditions.proofs.Steps.{SoFar, TermSoFar}
 use Rattle.conditions.proofs.condition.+condition_factor_primary_term.Given as goal
 
@@ -16,19 +15,14 @@ decreases-factor l = 4 * length l.input.tokens.now + 1
 abbrev pub decreases-primary : goal.decreases-primary
 decreases-primary l = 4 * length l.input.tokens.now
 
--- whatever is read up to where the loop began is read up to here
 abbrev pub invariant-condition-loop-after : goal.invariant-condition-loop-after
-invariant-condition-loop-after l =
-    (length l.rest.tokens.now ≤ length l.initial.rest.tokens.now) × (l.rest.end ≡ l.input.end) ×
-    ((ts : List Token) (before : Kept) → SoFar l.depth.brackets l.input.end ts before l.initial.rest.tokens.now (kept_in l.initial.out) → SoFar l.depth.brackets l.input.end ts before l.rest.tokens.now (kept_in l.out))
+invariant-condition-loop-after l = SoFar l.depth.brackets l.input (kept_in l.fn.out) l.rest (kept_in l.out)
 
 abbrev pub decreases-condition-loop-after : goal.decreases-condition-loop-after
 decreases-condition-loop-after l = length l.rest.tokens.now
 
 abbrev pub invariant-term-loop-after : goal.invariant-term-loop-after
-invariant-term-loop-after l =
-    (length l.rest.tokens.now ≤ length l.initial.rest.tokens.now) × (l.rest.end ≡ l.input.end) ×
-    ((ts : List Token) (before : Kept) → TermSoFar l.depth.brackets l.input.end ts before l.initial.rest.tokens.now (kept_in l.initial.out) → TermSoFar l.depth.brackets l.input.end ts before l.rest.tokens.now (kept_in l.out))
+invariant-term-loop-after l = TermSoFar l.depth.brackets l.input (kept_in l.fn.out) l.rest (kept_in l.out)
 
 abbrev pub decreases-term-loop-after : goal.decreases-term-loop-after
 decreases-term-loop-after l = length l.rest.tokens.now
