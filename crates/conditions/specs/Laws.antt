@@ -8,6 +8,7 @@ use Rattle.text.specs.declared.token.Token.{Token}
 use Rattle.text.specs.declared.token.TokenKind.{TokenKind}
 use Rattle.text.specs.declared.token.TokenKind.TheVariants.{Keyword, Digits, Operand, Comma, Dot, Plus, Bang, Open, Close, Slash, Backslash, LineEnd}
 use Rattle.words.specs.Emitted.{Kept, pushed}
+use Rattle.conditions.specs.declared.rest.Rest.{Rest}
 use Rattle.conditions.specs.Read.{kinds, Lacks, placed}
 use Rattle.conditions.specs.Scan.{condition_of, stops, fails}
 use Rattle.conditions.specs.Tree.{Cond, spell, words, Fits}
@@ -119,13 +120,14 @@ pub record Stuck (ts : List Token) (e : ℕ) (f : TextFault) : Type 0 where
 abbrev pub Refused : Type 0
 Refused = (ts : List Token) (e : ℕ) (f : TextFault) → condition_of ts e ≡ fails f → Stuck ts e f
 
--- what the reader of a whole condition answers: the scan's condition, the tokens behind it, and
--- its words behind those that were there
-pub record Wholly (ts : List Token) (e : ℕ) (before : Kept) (rest : List Token) (after : Kept) : Type 0 where
+-- what the reader of a whole condition answers: the scan's condition, what is left behind it, and its words behind those
+-- that were there
+pub record Wholly (from : Rest) (before : Kept) (rest : Rest) (after : Kept) : Type 0 where
   pub tree : Cond
-  pub is : condition_of ts e ≡ stops tree rest
-  pub begins : Begins tree ts rest
+  pub is : condition_of from.tokens.now from.end ≡ stops tree rest.tokens.now
+  pub begins : Begins tree from.tokens.now rest.tokens.now
   pub emitted : after ≡ pushed before (words tree)
+  pub same_end : rest.end ≡ from.end
 
 -- a condition that the tokens begin with is the one that leaves rest
 abbrev pub Only : List Token → List Token → Type 0

@@ -1,6 +1,6 @@
 //! The readers of a condition. Each takes what is left of the tokens, puts the words of what it reads behind `out`, and
 //! answers what is then left.
-ghost use Rattle.std.specs.Prelude.{◌≡◌, IfErr, IfOk, MatchResult};
+ghost use Rattle.std.specs.Prelude.{◌≡◌, IfErr, MatchResult};
 ghost use Rattle.text.specs.declared.token.TokenKind.TheVariants.{Open};
 ghost use Rattle.words.specs.Emitted.{kept_in};
 ghost use Rattle.conditions.specs.Tree.{loaded};
@@ -38,10 +38,9 @@ fn loading(negated: bool, atom: Atom) -> Instruction
 
 /// Reads the condition that the tokens begin with.
 pub fn read_condition<'a>(input: Rest<'a>, out: &mut WordList) -> Result<Rest<'a>, TextFault>
-    ensures reads { MatchResult result (λ rest. Wholly input.entry.tokens.now input.entry.end (kept_in out.old) rest.tokens.now (kept_in out.new)) (λ f. condition_of input.entry.tokens.now input.entry.end ≡ fails f) }
+    ensures reads { MatchResult result (λ rest. Wholly input.entry (kept_in out.old) rest (kept_in out.new)) (λ f. condition_of input.entry.tokens.now input.entry.end ≡ fails f) }
     ensures only_tree { MatchResult result (λ rest. Only input.entry.tokens.now rest.tokens.now) (λ f. Nowhere input.entry.tokens.now) }
     ensures refused { IfErr result (λ f. Stuck input.entry.tokens.now input.entry.end f) }
-    ensures same_end { IfOk result (λ rest. rest.end ≡ input.entry.end) }
 {
     condition(input, Depth::outside(), out)
 }

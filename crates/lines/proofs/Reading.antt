@@ -12,6 +12,7 @@ use Rattle.text.specs.declared.token.Token.{Token}
 use Rattle.text.specs.declared.token.TokenKind.{TokenKind}
 use Rattle.text.specs.declared.token.TokenKind.TheVariants.{Keyword, Digits, Operand, Comma, Dot, Plus, Bang, Open, Close, Slash, Backslash, LineEnd}
 use Rattle.conditions.specs.Read.{Heads, Lacks}
+use Rattle.conditions.specs.Readers.{Takes, Behind}
 use Rattle.conditions.specs.declared.rest.Rest.{Rest}
 use Rattle.conditions.specs.Tree.{Cond}
 use Rattle.conditions.specs.Scan as condition
@@ -29,8 +30,8 @@ use Rattle.lines.specs.declared.shape.Line.TheVariants as code
 use Rattle.lines.specs.Grammar as line
 use Rattle.lines.specs.Grammar.{Numbers, one, more, items, digits, Small}
 use Rattle.lines.specs.Scan as automaton
-use Rattle.lines.specs.Scan.{State, Move, scan, step, follow, goes, done, fault, fails, number, output, word, listed, initial, verb, guard, end, same, only, stepping, entering, transing, start, noted, refs, guarded}
-use Rattle.lines.specs.Parts.{ReadsNumber, NoNumber, ReadsWord, NoWord, ReadsEnd, ReadsList, NoList, LineFrom, QuietFrom, NoLineFrom, counted, numbers_in}
+use Rattle.lines.specs.Scan.{State, Move, scan, step, follow, goes, done, fault, reads, fails, number, output, word, listed, initial, verb, guard, end, same, only, stepping, entering, transing, start, noted, refs, guarded}
+use Rattle.lines.specs.Parts.{going, ReadsNumber, NoNumber, ReadsWord, NoWord, ReadsEnd, ReadsList, NoList, LineFrom, QuietFrom, NoLineFrom, counted, numbers_in}
 use Rattle.lines.specs.Guards.{step_tests}
 
 -- one step of the scan
@@ -40,6 +41,10 @@ on x e t rest s h = ap (λ s. follow s (λ x. scan rest x e) rest) h
 -- the same at tokens that are known to begin with a kind
 pub ahead : (k : TokenKind) {ts rest : List Token} (x y : State) (e : ℕ) → Heads k ts rest → ((at : ℕ) → step x at k ≡ goes y) → scan ts x e ≡ scan rest y e
 ahead k x y e h s = ap (λ l. scan l x e) h.2 ∙ on x e h.0 _ _ (ap (λ k. step x h.0.place k) h.1 ∙ s _)
+
+-- the same of what is left
+pub past : (k : TokenKind) {from rest : Rest} (x y : State) → Behind k from rest → ((at : ℕ) → step x at k ≡ goes y) → going x from ≡ going y rest
+past k {from} {rest} x y h s = ahead k x y from.end h.heads s ∙ ap (λ e. scan rest.tokens.now y e) (sym h.same_end)
 
 -- two states that differ at one kind alone
 alike : (a : TokenKind) (x y : State) (e : ℕ) (ts : List Token) → ((at : ℕ) (k : TokenKind) → (k ≡ a → ⊥) → step x at k ≡ step y at k) → step x e LineEnd ≡ step y e LineEnd → Lacks a ts → scan ts x e ≡ scan ts y e
@@ -88,8 +93,8 @@ unless_initial n at Slash h = refl
 unless_initial n at Backslash h = refl
 unless_initial n at LineEnd h = refl
 
-pub not_initial : {e : ℕ} {ts rest : List Token} {n : Number} → ReadsNumber e ts n rest → Lacks (Keyword Initial) rest → scan ts stepping e ≡ scan rest (end (line.step n false)) e
-not_initial {e} {ts} {rest} {n} r l = r.passes (λ n. initial n) ∙ alike (Keyword Initial) (initial n) (end (line.step n false)) e rest (λ at k h. unless_initial n at k h) refl l
+pub not_initial : {from rest : Rest} {n : Number} → ReadsNumber from n rest → Lacks (Keyword Initial) rest.tokens.now → going stepping from ≡ going (end (line.step n false)) rest
+not_initial {rest = rest} {n} r l = r.passes (λ n. initial n) ∙ alike (Keyword Initial) (initial n) (end (line.step n false)) rest.end rest.tokens.now (λ at k h. unless_initial n at k h) refl l
 
 -- an output that is reset
 
@@ -107,8 +112,8 @@ unless_set n at Slash h = refl
 unless_set n at Backslash h = refl
 unless_set n at LineEnd h = refl
 
-pub not_set : {e : ℕ} {ts rest : List Token} {n : Number} → ReadsNumber e ts n rest → Lacks (Keyword Set) rest → scan ts entering e ≡ scan rest (word Reset (output (λ q. end (line.enter n action.Reset q)))) e
-not_set {e} {ts} {rest} {n} r l = r.passes (λ n. verb n) ∙ alike (Keyword Set) (verb n) (word Reset (output (λ q. end (line.enter n action.Reset q)))) e rest (λ at k h. unless_set n at k h) refl l
+pub not_set : {from rest : Rest} {n : Number} → ReadsNumber from n rest → Lacks (Keyword Set) rest.tokens.now → going entering from ≡ going (word Reset (output (λ q. end (line.enter n action.Reset q)))) rest
+not_set {rest = rest} {n} r l = r.passes (λ n. verb n) ∙ alike (Keyword Set) (verb n) (word Reset (output (λ q. end (line.enter n action.Reset q)))) rest.end rest.tokens.now (λ at k h. unless_set n at k h) refl l
 
 -- the tokens before a rest
 pub used_part : (used rest toks : List Token) (m : ℕ) → toks ≡ used ++ rest → m ≡ length toks - length rest → take m toks ≡ used
@@ -125,34 +130,38 @@ counted_small : (n : Number) → Small n → counted n.place (Digits n.value) �
 counted_small n h = ap (λ q. cond q (n ∷ []) []) (le-leb n.value 63 h)
 
 -- a list so far: its tokens, and what they are read as
-pub record ListSoFar (w : Word) (e : ℕ) (ts rest : List Token) : Type 0 where
+pub record ListSoFar (w : Word) (from rest : Rest) : Type 0 where
   pub tree : Numbers
   pub part : List Token
-  pub split : ts ≡ part ++ rest
+  pub split : from.tokens.now ≡ part ++ rest.tokens.now
   pub numbers : numbers_in part ≡ items tree
-  pub passes : (k : Numbers → State) → scan ts (number (λ n. listed (one n) w k)) e ≡ scan rest (listed tree w k) e
+  pub passes : (k : Numbers → State) → going (number (λ n. listed (one n) w k)) from ≡ going (listed tree w k) rest
+  pub same_end : rest.end ≡ from.end
 
-pub list_started : {w : Word} {e : ℕ} {ts rest : List Token} {n : Number} → ReadsNumber e ts n rest → ListSoFar w e ts rest
-list_started {w} {n = n} r = record { tree = one n; part = digits n ∷ []; split = r.split; numbers = ap (λ l. l ++ []) (counted_small n r.small); passes = λ k. r.passes (λ n. listed (one n) w k) }
+pub list_started : {w : Word} {from rest : Rest} {n : Number} → ReadsNumber from n rest → ListSoFar w from rest
+list_started {w} {n = n} r = record { tree = one n; part = digits n ∷ []; split = r.split; numbers = ap (λ l. l ++ []) (counted_small n r.small); passes = λ k. r.passes (λ n. listed (one n) w k); same_end = r.same_end }
 
-comma_on : (ns : Numbers) (w : Word) (k : Numbers → State) (e : ℕ) {ts after : List Token} → Heads Comma ts after → scan ts (listed ns w k) e ≡ scan after (number (λ n. listed (more ns n) w k)) e
-comma_on ns w k e h = ahead Comma (listed ns w k) (number (λ n. listed (more ns n) w k)) e h (λ at. refl)
+comma_on : (ns : Numbers) (w : Word) (k : Numbers → State) {from after : Rest} → Behind Comma from after → going (listed ns w k) from ≡ going (number (λ n. listed (more ns n) w k)) after
+comma_on ns w k h = past Comma (listed ns w k) (number (λ n. listed (more ns n) w k)) h (λ at. refl)
 
-pub list_more : {w : Word} {e : ℕ} {ts rest after rest' : List Token} {n : Number} → ListSoFar w e ts rest → Heads Comma rest after → ReadsNumber e after n rest' → ListSoFar w e ts rest'
-list_more {w} {e} {ts} {rest} {after} {rest'} {n} s h r =
+pub list_more : {w : Word} {from rest after rest' : Rest} {n : Number} → ListSoFar w from rest → Behind Comma rest after → ReadsNumber after n rest' → ListSoFar w from rest'
+list_more {w} {from} {rest} {after} {rest'} {n} s b r =
+    let h = b.heads in
     let c = h.0 in
-    let here : rest ≡ c ∷ digits n ∷ rest' = h.2 ∙ ap (λ l. c ∷ l) r.split in
+    let left = rest'.tokens.now in
+    let here : rest.tokens.now ≡ c ∷ digits n ∷ left = h.2 ∙ ap (λ l. c ∷ l) r.split in
     let number_here : numbers_in (c ∷ digits n ∷ []) ≡ n ∷ [] = ap (λ k. counted c.place k ++ numbers_in (digits n ∷ [])) h.1 ∙ ap (λ l. l ++ []) (counted_small n r.small) in
     record {
       tree = more s.tree n;
       part = s.part ++ c ∷ digits n ∷ [];
-      split = s.split ∙ ap (λ l. s.part ++ l) here ∙ sym (append_assoc s.part (c ∷ digits n ∷ []) rest');
+      split = s.split ∙ ap (λ l. s.part ++ l) here ∙ sym (append_assoc s.part (c ∷ digits n ∷ []) left);
       numbers = numbers_append s.part (c ∷ digits n ∷ []) ∙ ap (λ l. l ++ numbers_in (c ∷ digits n ∷ [])) s.numbers ∙ ap (λ l. items s.tree ++ l) number_here;
-      passes = λ k. s.passes k ∙ comma_on s.tree w k e h ∙ r.passes (λ n. listed (more s.tree n) w k);
+      passes = λ k. s.passes k ∙ comma_on s.tree w k b ∙ r.passes (λ n. listed (more s.tree n) w k);
+      same_end = r.same_end ∙ b.same_end ∙ s.same_end;
     }
 
-pub list_none : {w : Word} {e : ℕ} {ts rest after : List Token} {f : TextFault} → ListSoFar w e ts rest → Heads Comma rest after → NoNumber e after f → NoList w e ts f
-list_none {w} {e} s h r = record { fails = λ k. s.passes k ∙ comma_on s.tree w k e h ∙ r.fails (λ n. listed (more s.tree n) w k) }
+pub list_none : {w : Word} {from rest after : Rest} {f : TextFault} → ListSoFar w from rest → Behind Comma rest after → NoNumber after f → NoList w from f
+list_none {w} s b r = record { fails = λ k. s.passes k ∙ comma_on s.tree w k b ∙ r.fails (λ n. listed (more s.tree n) w k) }
 
 unless_comma : (ns : Numbers) (w : Word) (next : Numbers → State) (at : ℕ) (k : TokenKind) → (k ≡ Comma → ⊥) → step (listed ns w next) at k ≡ step (word w (next ns)) at k
 unless_comma ns w next at (Keyword v) h = refl
@@ -168,26 +177,27 @@ unless_comma ns w next at Slash h = refl
 unless_comma ns w next at Backslash h = refl
 unless_comma ns w next at LineEnd h = refl
 
-comma_less : (ns : Numbers) (w : Word) (next : Numbers → State) (e : ℕ) (ts : List Token) → Lacks Comma ts → scan ts (listed ns w next) e ≡ scan ts (word w (next ns)) e
-comma_less ns w next e ts l = alike Comma (listed ns w next) (word w (next ns)) e ts (λ at k h. unless_comma ns w next at k h) refl l
+comma_less : (ns : Numbers) (w : Word) (next : Numbers → State) (rest : Rest) → Lacks Comma rest.tokens.now → going (listed ns w next) rest ≡ going (word w (next ns)) rest
+comma_less ns w next rest l = alike Comma (listed ns w next) (word w (next ns)) rest.end rest.tokens.now (λ at k h. unless_comma ns w next at k h) refl l
 
-pub list_split : {w : Word} {e : ℕ} {ts rest left : List Token} (s : ListSoFar w e ts rest) (r : ReadsWord w e rest left) → ts ≡ (s.part ++ r.split.0 ∷ []) ++ left
-list_split {left = left} s r = s.split ∙ ap (λ l. s.part ++ l) r.split.2 ∙ sym (append_assoc s.part (r.split.0 ∷ []) left)
+list_split : {w : Word} {from rest left : Rest} (s : ListSoFar w from rest) (r : ReadsWord w rest left) → from.tokens.now ≡ (s.part ++ r.behind.heads.0 ∷ []) ++ left.tokens.now
+list_split {left = left} s r = s.split ∙ ap (λ l. s.part ++ l) r.behind.heads.2 ∙ sym (append_assoc s.part (r.behind.heads.0 ∷ []) left.tokens.now)
 
-pub list_ended : {w : Word} {e m : ℕ} {ts rest left part : List Token} → ListSoFar w e ts rest → Lacks Comma rest → ReadsWord w e rest left → m ≡ length ts - length left → part ≡ take m ts → ReadsList w e ts part left
-list_ended {w} {e} {m} {ts} {rest} {left} {part} s l r em ep =
-    let t = r.split.0 in
+pub list_ended : {w : Word} {m : ℕ} {from rest left : Rest} {part : List Token} → ListSoFar w from rest → Lacks Comma rest.tokens.now → ReadsWord w rest left → m ≡ length from.tokens.now - length left.tokens.now → part ≡ take m from.tokens.now → ReadsList w from part left
+list_ended {w} {m} {from} {rest} {left} {part} s l r em ep =
+    let t = r.behind.heads.0 in
     let used = s.part ++ t ∷ [] in
-    let is : part ≡ used = ep ∙ used_part used left ts m (list_split s r) em in
+    let is : part ≡ used = ep ∙ used_part used left.tokens.now from.tokens.now m (list_split s r) em in
     record {
       tree = s.tree;
-      split = list_split s r ∙ ap (λ l. l ++ left) (sym is);
-      numbers = ap numbers_in is ∙ numbers_append s.part (t ∷ []) ∙ ap (λ k. numbers_in s.part ++ (counted t.place k ++ [])) r.split.1 ∙ append-nil (numbers_in s.part) ∙ s.numbers;
-      passes = λ k. s.passes k ∙ comma_less s.tree w k e rest l ∙ r.passes (k s.tree);
+      split = list_split s r ∙ ap (λ l. l ++ left.tokens.now) (sym is);
+      numbers = ap numbers_in is ∙ numbers_append s.part (t ∷ []) ∙ ap (λ k. numbers_in s.part ++ (counted t.place k ++ [])) r.behind.heads.1 ∙ append-nil (numbers_in s.part) ∙ s.numbers;
+      passes = λ k. s.passes k ∙ comma_less s.tree w k rest l ∙ r.passes (k s.tree);
+      same_end = r.behind.same_end ∙ s.same_end;
     }
 
-pub list_wordless : {w : Word} {e : ℕ} {ts rest : List Token} {f : TextFault} → ListSoFar w e ts rest → Lacks Comma rest → NoWord w e rest f → NoList w e ts f
-list_wordless {w} {e} {rest = rest} s l r = record { fails = λ k. s.passes k ∙ comma_less s.tree w k e rest l ∙ r.fails (k s.tree) }
+pub list_wordless : {w : Word} {from rest : Rest} {f : TextFault} → ListSoFar w from rest → Lacks Comma rest.tokens.now → NoWord w rest f → NoList w from f
+list_wordless {w} {rest = rest} s l r = record { fails = λ k. s.passes k ∙ comma_less s.tree w k rest l ∙ r.fails (k s.tree) }
 
 -- the steps named along two runs of tokens
 pub refs_append : (ts us : List Token) → refs (ts ++ us) ≡ refs ts ++ refs us
@@ -259,40 +269,50 @@ guard_fails n fs ts us x e (t ∷ toks) f r = fails_token n fs ts us e t toks f 
 abbrev pub second : Number → Numbers → State
 second n fs = number (λ t. listed (one t) When (λ ts. guard n fs ts [] condition.start))
 
-pub up_to_from : {e : ℕ} {ts r q : List Token} {n : Number} → ReadsNumber e ts n r → ReadsWord From e r q → scan ts transing e ≡ scan q (number (λ f. listed (one f) To (λ fs. second n fs))) e
+pub up_to_from : {from r q : Rest} {n : Number} → ReadsNumber from n r → ReadsWord From r q → going transing from ≡ going (number (λ f. listed (one f) To (λ fs. second n fs))) q
 up_to_from {n = n} x y = x.passes (λ n. word From (number (λ f. listed (one f) To (λ fs. second n fs)))) ∙ y.passes (number (λ f. listed (one f) To (λ fs. second n fs)))
 
-pub up_to_to : {e : ℕ} {ts r q s part : List Token} {n : Number} → ReadsNumber e ts n r → ReadsWord From e r q → (z : ReadsList To e q part s) → scan ts transing e ≡ scan s (second n z.tree) e
+pub up_to_to : {from r q s : Rest} {part : List Token} {n : Number} → ReadsNumber from n r → ReadsWord From r q → (z : ReadsList To q part s) → going transing from ≡ going (second n z.tree) s
 up_to_to {n = n} x y z = up_to_from x y ∙ z.passes (λ fs. second n fs)
 
-pub up_to_when : {e : ℕ} {ts r q s u part part' : List Token} {n : Number} → ReadsNumber e ts n r → ReadsWord From e r q → (z : ReadsList To e q part s) (v : ReadsList When e s part' u) → scan ts transing e ≡ scan u (guard n z.tree v.tree [] condition.start) e
+pub up_to_when : {from r q s u : Rest} {part part' : List Token} {n : Number} → ReadsNumber from n r → ReadsWord From r q → (z : ReadsList To q part s) (v : ReadsList When s part' u) → going transing from ≡ going (guard n z.tree v.tree [] condition.start) u
 up_to_when {n = n} x y z v = up_to_to x y z ∙ v.passes (λ ts. guard n z.tree ts [] condition.start)
 
+-- the condition of a transition, read or refused
+pub guard_passes : {n : Number} {fs ts : Numbers} {from rest : Rest} {before after : Kept} (w : Wholly from before rest after) → (g : Guarded n fs ts [] condition.start from.end from.tokens.now rest.tokens.now w.tree) → going (guard n fs ts [] condition.start) from ≡ going (end (line.trans n fs ts w.tree (refs g.used))) rest
+guard_passes {n} {fs} {ts} {from} {rest} w g = g.is ∙ ap (λ e. scan rest.tokens.now (end (line.trans n fs ts w.tree (refs g.used))) e) (sym w.same_end)
+
 -- no tokens are an empty line
-pub none_left : (ts : List Token) (e : ℕ) (k : Kept) → length ts ≡ 0 → LineFrom start e ts code.Empty ts k k
+empty : (ts : List Token) → length ts ≡ 0 → ts ≡ []
+empty [] h = refl
+empty (t ∷ ts) h = absurd (omega arith)
+
+pub none_left : (from : Rest) (k : Kept) → length from.tokens.now ≡ 0 → LineFrom start from code.Empty from k k
 unfolding pushed
-none_left [] e k h = record { tree = line.empty; is = refl; shown = refl; emitted = refl }
-none_left (t ∷ ts) e k h = absurd (omega arith)
+none_left from k h = let none = empty from.tokens.now h in record { tree = line.empty; is = ap (λ l. scan l start from.end) none ∙ ap (λ l. reads line.empty l) (sym none); shown = refl; emitted = refl; same_end = refl }
 
 -- a line that no words test
-pub quietly : {x : State} {e : ℕ} {ts rest : List Token} {l : Line} (k : Kept) → QuietFrom x e ts l rest → LineFrom x e ts l rest k k
+quietly : {x : State} {from rest : Rest} {l : Line} (k : Kept) → QuietFrom x from l rest → LineFrom x from l rest k k
 unfolding pushed
-quietly k q = record { tree = q.tree; is = q.is; shown = q.shown; emitted = sym (ap (λ is. pushed k is) q.quiet) }
+quietly k q = record { tree = q.tree; is = q.is; shown = q.shown; emitted = sym (ap (λ is. pushed k is) q.quiet); same_end = q.same_end }
 
 -- a line after its first word, and a line that ends at once
-pub begun : {e : ℕ} {ts rest left : List Token} {w : Word} {x : State} {l : Line} (t : Token) (k : Kept) → t.kind ≡ Keyword w → ts ≡ t ∷ rest → ((at : ℕ) → step start at (Keyword w) ≡ goes x) → QuietFrom x e rest l left → LineFrom start e ts l left k k
-begun {e} {w = w} {x} t k i h s q = let r = quietly k q in record { tree = r.tree; is = ahead (Keyword w) start x e (t, i, h) s ∙ r.is; shown = r.shown; emitted = r.emitted }
+first_word : {from rest : Rest} {w : Word} {x : State} (t : Token) → t.kind ≡ Keyword w → Takes from t rest → ((at : ℕ) → step start at (Keyword w) ≡ goes x) → going start from ≡ going x rest
+first_word {from} {rest} {w} {x} t i h s = past (Keyword w) {from = from} {rest = rest} start x (record { heads = (t, i, h.split); same_end = h.same_end }) s
 
-pub not_begun : {e : ℕ} {ts rest : List Token} {w : Word} {x : State} {f : TextFault} (t : Token) → t.kind ≡ Keyword w → ts ≡ t ∷ rest → ((at : ℕ) → step start at (Keyword w) ≡ goes x) → NoLineFrom x e rest f → NoLineFrom start e ts f
-not_begun {e} {w = w} {x} t i h s q = record { fails = ahead (Keyword w) start x e (t, i, h) s ∙ q.fails }
+begun : {from rest left : Rest} {w : Word} {x : State} {l : Line} (t : Token) (k : Kept) → t.kind ≡ Keyword w → Takes from t rest → ((at : ℕ) → step start at (Keyword w) ≡ goes x) → QuietFrom x rest l left → LineFrom start from l left k k
+begun t k i h s q = let r = quietly k q in record { tree = r.tree; is = first_word t i h s ∙ r.is; shown = r.shown; emitted = r.emitted; same_end = r.same_end ∙ h.same_end }
+
+not_begun : {from rest : Rest} {w : Word} {x : State} {f : TextFault} (t : Token) → t.kind ≡ Keyword w → Takes from t rest → ((at : ℕ) → step start at (Keyword w) ≡ goes x) → NoLineFrom x rest f → NoLineFrom start from f
+not_begun t i h s q = record { fails = first_word t i h s ∙ q.fails }
 
 -- what a reader of the rest of a line answers, behind the line's first word
-pub begun_line : (w : Word) (e : ℕ) {ts rest : List Token} {x : State} (t : Token) (k : Kept) (r : Result (Line × Rest) TextFault) → t.kind ≡ Keyword w → ts ≡ t ∷ rest → ((at : ℕ) → step start at (Keyword w) ≡ goes x) → MatchResult r (λ p. QuietFrom x e rest p.0 p.1.tokens.now) (λ f. NoLineFrom x e rest f) → MatchResult r (λ p. LineFrom start e ts p.0 p.1.tokens.now k k) (λ f. NoLineFrom start e ts f)
-begun_line w e t k r i h s q = MatchResult-weaker r q (λ p q. begun t k i h s q) (λ f q. not_begun t i h s q)
+pub begun_line : (w : Word) {from rest : Rest} {x : State} (t : Token) (k : Kept) (r : Result (Line × Rest) TextFault) → t.kind ≡ Keyword w → Takes from t rest → ((at : ℕ) → step start at (Keyword w) ≡ goes x) → MatchResult r (λ p. QuietFrom x rest p.0 p.1) (λ f. NoLineFrom x rest f) → MatchResult r (λ p. LineFrom start from p.0 p.1 k k) (λ f. NoLineFrom start from f)
+begun_line w t k r i h s q = MatchResult-weaker r q (λ p q. begun t k i h s q) (λ f q. not_begun t i h s q)
 
-pub ended_at_once : {ts rest : List Token} (t : Token) (e : ℕ) (k : Kept) → t.kind ≡ LineEnd → ts ≡ t ∷ rest → LineFrom start e ts code.Empty rest k k
+pub ended_at_once : {from rest : Rest} (t : Token) (k : Kept) → t.kind ≡ LineEnd → Takes from t rest → LineFrom start from code.Empty rest k k
 unfolding pushed
-ended_at_once {rest = rest} t e k i h = record { tree = line.empty; is = ap (λ l. scan l start e) h ∙ on start e t rest (done line.empty) (ap (λ k. step start t.place k) i); shown = refl; emitted = refl }
+ended_at_once {from} {rest} t k i h = record { tree = line.empty; is = ap (λ l. scan l start from.end) h.split ∙ on start from.end t rest.tokens.now (done line.empty) (ap (λ k. step start t.place k) i); shown = refl; emitted = refl; same_end = h.same_end }
 
 -- the words of a transition's test, one run behind the other
 abbrev pub after_test : Kept → List Instruction → List Instruction → ℕ → Kept
@@ -308,14 +328,15 @@ tested k steps words n =
     ap (λ z. pushed k z) (simp append_assoc)
 
 -- a whole transition
-pub trans_reads : (t : Transition) (e : ℕ) (ts r q s u rest left : List Token) (k mid inside after : Kept) (m : ℕ) → ReadsNumber e ts t.number r → ReadsWord From e r q → ReadsList To e q t.from.now s → ReadsList When e s t.to.now u → mid ≡ pushed (pushed k (step_tests (numbers_in t.from.now))) (instruction.AndOpen ∷ []) → Wholly u e mid rest inside → after ≡ pushed (pushed inside (instruction.Close ∷ [])) (instruction.Store t.number.value ∷ []) → m ≡ length u - length rest → t.condition.now ≡ take m u → ReadsEnd e rest left → LineFrom transing e ts (code.Trans t) left k after
-trans_reads t e ts r q s u rest left k mid inside after m x y z v em w ea el ec o =
-    let g = guard_reads t.number z.tree v.tree [] condition.start e u rest w.tree w.is in
-    let named : refs g.used ≡ refs t.condition.now = ap refs (sym (ec ∙ used_part g.used rest u m g.split el)) in
+pub trans_reads : (t : Transition) (from r q s u rest left : Rest) (k mid inside after : Kept) (m : ℕ) → ReadsNumber from t.number r → ReadsWord From r q → ReadsList To q t.from.now s → ReadsList When s t.to.now u → mid ≡ pushed (pushed k (step_tests (numbers_in t.from.now))) (instruction.AndOpen ∷ []) → Wholly u mid rest inside → after ≡ pushed (pushed inside (instruction.Close ∷ [])) (instruction.Store t.number.value ∷ []) → m ≡ length u.tokens.now - length rest.tokens.now → t.condition.now ≡ take m u.tokens.now → ReadsEnd rest left → LineFrom transing from (code.Trans t) left k after
+trans_reads t from r q s u rest left k mid inside after m x y z v em w ea el ec o =
+    let g = guard_reads t.number z.tree v.tree [] condition.start u.end u.tokens.now rest.tokens.now w.tree w.is in
+    let named : refs g.used ≡ refs t.condition.now = ap refs (sym (ec ∙ used_part g.used rest.tokens.now u.tokens.now m g.split el)) in
     let n = t.number.value in
     record {
       tree = line.trans t.number z.tree v.tree w.tree (refs g.used);
-      is = up_to_when x y z v ∙ g.is ∙ o.passes _;
+      is = up_to_when x y z v ∙ guard_passes w g ∙ o.passes _;
       shown = (z.tree, v.tree, w.tree, ap (λ l. line.trans t.number z.tree v.tree w.tree l) named, z.numbers, v.numbers);
       emitted = ea ∙ ap (λ z. pushed (pushed z (instruction.Close ∷ [])) (instruction.Store n ∷ [])) (w.emitted ∙ ap (λ z. pushed z (words w.tree)) em) ∙ tested k (step_tests (numbers_in t.from.now)) (words w.tree) n ∙ ap (λ ns. pushed k (step_tests ns ++ (enclosed instruction.AndOpen (words w.tree) ++ (instruction.Store n ∷ [])))) z.numbers;
+      same_end = o.same_end ∙ w.same_end ∙ v.same_end ∙ z.same_end ∙ y.behind.same_end ∙ x.same_end;
     }

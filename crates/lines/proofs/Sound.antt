@@ -8,6 +8,7 @@ use Rattle.words.specs.Emitted.{Kept}
 use Rattle.lines.specs.declared.shape.Line.{Line}
 use Rattle.lines.specs.Grammar.{Tree, spell, Matches, FitsLine}
 use Rattle.lines.specs.Scan.{State, Move, scan, step, follow, goes, done, fault, reads, fails, start}
+use Rattle.conditions.specs.declared.rest.Rest.{Rest}
 use Rattle.lines.specs.Parts.{LineFrom, ReadsLine}
 use Rattle.lines.specs.Laws.{Uses, Ends, Sound}
 use Rattle.lines.proofs.Along.{Spelt, Within, Next, advance}
@@ -65,7 +66,7 @@ ends_shorter ts used rest e h =
     (λ a. omega (arith, ap length a.2 ∙ length-append used (a.0 ∷ rest)))
     e
 
-pub whole_line_read : {e : ℕ} {ts rest : List Token} {l : Line} {before after : Kept} → LineFrom start e ts l rest before after → ReadsLine start e ts l rest before after
-whole_line_read {e} {ts} {rest} r =
-    let b = sound ts rest e r.tree r.is in
-    record { tree = r.tree; is = r.is; shown = r.shown; emitted = r.emitted; begins = b; fits = b.fits; shorter = ends_shorter ts b.used rest b.ends }
+pub whole_line_read : {from rest : Rest} {l : Line} {before after : Kept} → LineFrom start from l rest before after → ReadsLine start from l rest before after
+whole_line_read {from} {rest} r =
+    let b = sound from.tokens.now rest.tokens.now from.end r.tree r.is in
+    record { tree = r.tree; is = r.is; shown = r.shown; emitted = r.emitted; begins = b; fits = b.fits; shorter = ends_shorter from.tokens.now b.used rest.tokens.now b.ends; same_end = r.same_end }

@@ -6,6 +6,8 @@ use Rattle.text.specs.declared.token.Token.{Token}
 use Rattle.text.specs.declared.token.TokenKind.TheVariants.{LineEnd}
 use Rattle.lines.specs.Grammar.{Tree, FitsLine}
 use Rattle.lines.specs.Scan.{State, Move, Scan, scan, step, follow, start, goes, done, fault, reads, fails}
+use Rattle.conditions.specs.declared.rest.Rest.{Rest}
+use Rattle.lines.specs.Next.{lines_left}
 use Rattle.lines.specs.Text.{read_lines, between, inside, onward, ended, put, before}
 use Rattle.lines.specs.Laws.{Begins, LinesUpTo, here, line, Spelled, StuckText, TextsSound, TextsWhole, TextsRefused}
 use Rattle.lines.proofs.Whole.{whole}
@@ -73,8 +75,8 @@ first_fails [] e f n h = absurd (omega arith)
 first_fails (t ∷ ts) e f n h = fails_from (t ∷ ts) start e f h
 
 -- a loop over the lines: what is left, behind the lines that were read, gives the whole
-abbrev pub Left : List Token → ℕ → List Tree → List Token → Type 0
-Left ts e ls rest = read_lines ts between e ≡ before ls (read_lines rest between e)
+abbrev pub Left : Rest → List Tree → Rest → Type 0
+Left from ls rest = lines_left from ≡ before ls (lines_left rest)
 
 before_none : (r : Lines) → r ≡ before [] r
 before_none (Ok ls) = refl
@@ -84,14 +86,14 @@ before_put : (ls : List Tree) (l : Tree) (r : Lines) → before ls (put l r) ≡
 before_put ls l (Ok ms) = ap (λ z. Ok z) (sym (append_assoc ls (l ∷ []) ms))
 before_put ls l (Err f) = refl
 
-pub left_all : (ts : List Token) (e : ℕ) → Left ts e [] ts
-left_all ts e = before_none (read_lines ts between e)
+pub left_all : (from : Rest) → Left from [] from
+left_all from = before_none (lines_left from)
 
-pub left_less : (ts rest after : List Token) (e : ℕ) (ls : List Tree) (l : Tree) → Left ts e ls rest → read_lines rest between e ≡ put l (read_lines after between e) → Left ts e (ls ++ l ∷ []) after
-left_less ts rest after e ls l h first = h ∙ ap (λ z. before ls z) first ∙ before_put ls l (read_lines after between e)
+pub left_less : (from rest after : Rest) (ls : List Tree) (l : Tree) → Left from ls rest → lines_left rest ≡ put l (lines_left after) → Left from (ls ++ l ∷ []) after
+left_less from rest after ls l h first = h ∙ ap (λ z. before ls z) first ∙ before_put ls l (lines_left after)
 
-pub left_fails : (ts rest : List Token) (e : ℕ) (ls : List Tree) (f : TextFault) → Left ts e ls rest → read_lines rest between e ≡ Err f → read_lines ts between e ≡ Err f
-left_fails ts rest e ls f h failing = h ∙ ap (λ z. before ls z) failing
+pub left_fails : (from rest : Rest) (ls : List Tree) (f : TextFault) → Left from ls rest → lines_left rest ≡ Err f → lines_left from ≡ Err f
+left_fails from rest ls f h failing = h ∙ ap (λ z. before ls z) failing
 
 -- the lines of a text
 before_lines : (l : Tree) (ls : List Tree) (r : Lines) → put l (before ls r) ≡ before (l ∷ ls) r

@@ -6,14 +6,15 @@ use Rattle.text.specs.declared.token.Token.{Token}
 use Rattle.text.specs.declared.token.TokenKind.{TokenKind}
 use Rattle.text.specs.declared.token.TokenKind.TheVariants.{Keyword, Digits, Operand, Comma, Dot, Plus, Bang, Open, Close, Slash, Backslash, LineEnd}
 use Rattle.words.specs.Emitted.{Kept, pushed}
-use Rattle.conditions.specs.Read.{Heads}
+use Rattle.conditions.specs.declared.rest.Rest.{Rest}
+use Rattle.conditions.specs.Readers.{Behind}
 use Rattle.conditions.specs.Tree.{Cond}
 use Rattle.lines.specs.declared.shape.Number.{Number}
 use Rattle.lines.specs.declared.shape.Line.{Line}
 use Rattle.lines.specs.declared.shape.Line.TheVariants.{Empty, Step, Trans, Hold, Enter}
 use Rattle.lines.specs.Grammar as line
 use Rattle.lines.specs.Grammar.{Tree, Numbers, one, items, digits, Small, FitsLine}
-use Rattle.lines.specs.Scan.{State, scan, reads, fails, number, output, word, listed, end, up_to63, refs}
+use Rattle.lines.specs.Scan.{State, Scan, scan, reads, fails, number, output, word, listed, end, up_to63, refs}
 use Rattle.lines.specs.Guards.{guard_words}
 use Rattle.lines.specs.Laws.{Begins}
 
@@ -37,43 +38,51 @@ abbrev pub numbers_in : List Token → List Number
 numbers_in [] = []
 numbers_in (t ∷ ts) = counted t.place t.kind ++ numbers_in ts
 
--- the scan goes over ts to rest, whatever it goes on with
-pub record ReadsNumber (e : ℕ) (ts : List Token) (n : Number) (rest : List Token) : Type 0 where
-  pub passes : (k : Number → State) → scan ts (number k) e ≡ scan rest (k n) e
-  pub split : ts ≡ digits n ∷ rest
+-- what the scan makes of what is left, from a state on
+abbrev pub going : State → Rest → Scan
+going x left = scan left.tokens.now x left.end
+
+-- the scan goes on to rest, whatever it goes on with
+pub record ReadsNumber (from : Rest) (n : Number) (rest : Rest) : Type 0 where
+  pub passes : (k : Number → State) → going (number k) from ≡ going (k n) rest
+  pub split : from.tokens.now ≡ digits n ∷ rest.tokens.now
   pub small : Small n
+  pub same_end : rest.end ≡ from.end
 
-pub record NoNumber (e : ℕ) (ts : List Token) (f : TextFault) : Type 0 where
-  pub fails : (k : Number → State) → scan ts (number k) e ≡ fails f
+pub record NoNumber (from : Rest) (f : TextFault) : Type 0 where
+  pub fails : (k : Number → State) → going (number k) from ≡ fails f
 
-pub record ReadsOutput (e : ℕ) (ts : List Token) (n : Number) (rest : List Token) : Type 0 where
-  pub passes : (k : Number → State) → scan ts (output k) e ≡ scan rest (k n) e
+pub record ReadsOutput (from : Rest) (n : Number) (rest : Rest) : Type 0 where
+  pub passes : (k : Number → State) → going (output k) from ≡ going (k n) rest
+  pub same_end : rest.end ≡ from.end
 
-pub record NoOutput (e : ℕ) (ts : List Token) (f : TextFault) : Type 0 where
-  pub fails : (k : Number → State) → scan ts (output k) e ≡ fails f
+pub record NoOutput (from : Rest) (f : TextFault) : Type 0 where
+  pub fails : (k : Number → State) → going (output k) from ≡ fails f
 
-pub record ReadsWord (w : Word) (e : ℕ) (ts rest : List Token) : Type 0 where
-  pub passes : (x : State) → scan ts (word w x) e ≡ scan rest x e
-  pub split : Heads (Keyword w) ts rest
+pub record ReadsWord (w : Word) (from rest : Rest) : Type 0 where
+  pub passes : (x : State) → going (word w x) from ≡ going x rest
+  pub behind : Behind (Keyword w) from rest
 
-pub record NoWord (w : Word) (e : ℕ) (ts : List Token) (f : TextFault) : Type 0 where
-  pub fails : (x : State) → scan ts (word w x) e ≡ fails f
+pub record NoWord (w : Word) (from : Rest) (f : TextFault) : Type 0 where
+  pub fails : (x : State) → going (word w x) from ≡ fails f
 
-pub record ReadsEnd (e : ℕ) (ts rest : List Token) : Type 0 where
-  pub passes : (l : Tree) → scan ts (end l) e ≡ reads l rest
+pub record ReadsEnd (from rest : Rest) : Type 0 where
+  pub passes : (l : Tree) → going (end l) from ≡ reads l rest.tokens.now
+  pub same_end : rest.end ≡ from.end
 
-pub record NoEnd (e : ℕ) (ts : List Token) (f : TextFault) : Type 0 where
-  pub fails : (l : Tree) → scan ts (end l) e ≡ fails f
+pub record NoEnd (from : Rest) (f : TextFault) : Type 0 where
+  pub fails : (l : Tree) → going (end l) from ≡ fails f
 
 -- a list and the word that ends it: its tokens are `part`
-pub record ReadsList (w : Word) (e : ℕ) (ts part rest : List Token) : Type 0 where
+pub record ReadsList (w : Word) (from : Rest) (part : List Token) (rest : Rest) : Type 0 where
   pub tree : Numbers
-  pub split : ts ≡ part ++ rest
+  pub split : from.tokens.now ≡ part ++ rest.tokens.now
   pub numbers : numbers_in part ≡ items tree
-  pub passes : (k : Numbers → State) → scan ts (number (λ n. listed (one n) w k)) e ≡ scan rest (k tree) e
+  pub passes : (k : Numbers → State) → going (number (λ n. listed (one n) w k)) from ≡ going (k tree) rest
+  pub same_end : rest.end ≡ from.end
 
-pub record NoList (w : Word) (e : ℕ) (ts : List Token) (f : TextFault) : Type 0 where
-  pub fails : (k : Numbers → State) → scan ts (number (λ n. listed (one n) w k)) e ≡ fails f
+pub record NoList (w : Word) (from : Rest) (f : TextFault) : Type 0 where
+  pub fails : (k : Numbers → State) → going (number (λ n. listed (one n) w k)) from ≡ fails f
 
 -- a line of the code shows the tree
 abbrev pub Shows : Line → Tree → Type 0
@@ -84,28 +93,31 @@ Shows (Hold n q) l = l ≡ line.hold n q
 Shows (Enter n a q) l = l ≡ line.enter n a q
 
 -- from the state x the scan reads a line, which is shown, and its test's words stand behind those of before
-pub record LineFrom (x : State) (e : ℕ) (ts : List Token) (l : Line) (rest : List Token) (before after : Kept) : Type 0 where
+pub record LineFrom (x : State) (from : Rest) (l : Line) (rest : Rest) (before after : Kept) : Type 0 where
   pub tree : Tree
-  pub is : scan ts x e ≡ reads tree rest
+  pub is : going x from ≡ reads tree rest.tokens.now
   pub shown : Shows l tree
   pub emitted : after ≡ pushed before (guard_words tree)
+  pub same_end : rest.end ≡ from.end
 
 -- the same of a line that no words test
-pub record QuietFrom (x : State) (e : ℕ) (ts : List Token) (l : Line) (rest : List Token) : Type 0 where
+pub record QuietFrom (x : State) (from : Rest) (l : Line) (rest : Rest) : Type 0 where
   pub tree : Tree
-  pub is : scan ts x e ≡ reads tree rest
+  pub is : going x from ≡ reads tree rest.tokens.now
   pub shown : Shows l tree
   pub quiet : guard_words tree ≡ []
+  pub same_end : rest.end ≡ from.end
 
-pub record NoLineFrom (x : State) (e : ℕ) (ts : List Token) (f : TextFault) : Type 0 where
-  pub fails : scan ts x e ≡ fails f
+pub record NoLineFrom (x : State) (from : Rest) (f : TextFault) : Type 0 where
+  pub fails : going x from ≡ fails f
 
 -- the same of a whole line, which the tokens begin with, which fits, and which leaves fewer tokens
-pub record ReadsLine (x : State) (e : ℕ) (ts : List Token) (l : Line) (rest : List Token) (before after : Kept) : Type 0 where
+pub record ReadsLine (x : State) (from : Rest) (l : Line) (rest : Rest) (before after : Kept) : Type 0 where
   pub tree : Tree
-  pub is : scan ts x e ≡ reads tree rest
+  pub is : going x from ≡ reads tree rest.tokens.now
   pub shown : Shows l tree
   pub emitted : after ≡ pushed before (guard_words tree)
-  pub begins : Begins tree ts rest
+  pub begins : Begins tree from.tokens.now rest.tokens.now
   pub fits : FitsLine tree
-  pub shorter : 0 < length ts → length rest < length ts
+  pub shorter : 0 < length from.tokens.now → length rest.tokens.now < length from.tokens.now
+  pub same_end : rest.end ≡ from.end

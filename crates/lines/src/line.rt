@@ -1,5 +1,5 @@
 //! One line.
-ghost use Rattle.std.specs.Prelude.{◌≡◌, IfErr, IfOk, MatchResult};
+ghost use Rattle.std.specs.Prelude.{◌≡◌, IfErr, MatchResult};
 ghost use Rattle.words.specs.Emitted.{kept_in};
 ghost use Rattle.lines.specs.Scan.{scan, fails, start, stepping, transing, holding, entering};
 ghost use Rattle.lines.specs.Laws.{Only, Nowhere, Stuck};
@@ -21,10 +21,9 @@ pub fn read_line<'a>(
     input: Rest<'a>,
     guards: &mut WordList,
 ) -> Result<(Line<'a>, Rest<'a>), TextFault>
-    ensures reads { MatchResult result (λ p. ReadsLine start input.entry.end input.entry.tokens.now p.0 p.1.tokens.now (kept_in guards.old) (kept_in guards.new)) (λ f. scan input.entry.tokens.now start input.entry.end ≡ fails f) }
+    ensures reads { MatchResult result (λ p. ReadsLine start input.entry p.0 p.1 (kept_in guards.old) (kept_in guards.new)) (λ f. scan input.entry.tokens.now start input.entry.end ≡ fails f) }
     ensures only_tree { MatchResult result (λ p. Only input.entry.tokens.now p.1.tokens.now) (λ f. Nowhere input.entry.tokens.now) }
     ensures refused { IfErr result (λ f. Stuck input.entry.tokens.now input.entry.end f) }
-    ensures same_end { IfOk result (λ p. p.1.end ≡ input.entry.end) }
 {
     read(input, guards)
 }
@@ -34,7 +33,7 @@ pub fn next_line<'a>(
     input: Rest<'a>,
     guards: &mut WordList,
 ) -> Result<Option<(Line<'a>, Rest<'a>)>, TextFault>
-    ensures { NextLine input.entry.tokens.now input.entry.end (kept_in guards.old) (kept_in guards.new) result }
+    ensures { NextLine input.entry (kept_in guards.old) (kept_in guards.new) result }
 {
     if input.tokens.is_empty() {
         return Ok(None);
@@ -44,8 +43,7 @@ pub fn next_line<'a>(
 }
 
 fn read<'a>(input: Rest<'a>, guards: &mut WordList) -> Result<(Line<'a>, Rest<'a>), TextFault>
-    ensures reads { MatchResult result (λ p. LineFrom start input.entry.end input.entry.tokens.now p.0 p.1.tokens.now (kept_in guards.old) (kept_in guards.new)) (λ f. NoLineFrom start input.entry.end input.entry.tokens.now f) }
-    ensures same_end { IfOk result (λ p. p.1.end ≡ input.entry.end) }
+    ensures { MatchResult result (λ p. LineFrom start input.entry p.0 p.1 (kept_in guards.old) (kept_in guards.new)) (λ f. NoLineFrom start input.entry f) }
 {
     if input.tokens.is_empty() {
         return Ok((Line::Empty, input));
@@ -62,8 +60,7 @@ fn read<'a>(input: Rest<'a>, guards: &mut WordList) -> Result<(Line<'a>, Rest<'a
 }
 
 fn step<'a>(input: Rest<'a>) -> Result<(Line<'a>, Rest<'a>), TextFault>
-    ensures reads { MatchResult result (λ p. QuietFrom stepping input.entry.end input.entry.tokens.now p.0 p.1.tokens.now) (λ f. NoLineFrom stepping input.entry.end input.entry.tokens.now f) }
-    ensures same_end { IfOk result (λ p. p.1.end ≡ input.entry.end) }
+    ensures { MatchResult result (λ p. QuietFrom stepping input.entry p.0 p.1) (λ f. NoLineFrom stepping input.entry f) }
 {
     let (n, rest) = number(input)?;
     match rest.behind(TokenKind::Keyword(Word::Initial)) {
@@ -79,8 +76,7 @@ fn step<'a>(input: Rest<'a>) -> Result<(Line<'a>, Rest<'a>), TextFault>
 }
 
 fn hold<'a>(input: Rest<'a>) -> Result<(Line<'a>, Rest<'a>), TextFault>
-    ensures reads { MatchResult result (λ p. QuietFrom holding input.entry.end input.entry.tokens.now p.0 p.1.tokens.now) (λ f. NoLineFrom holding input.entry.end input.entry.tokens.now f) }
-    ensures same_end { IfOk result (λ p. p.1.end ≡ input.entry.end) }
+    ensures { MatchResult result (λ p. QuietFrom holding input.entry p.0 p.1) (λ f. NoLineFrom holding input.entry f) }
 {
     let (n, rest) = number(input)?;
     let (q, after) = output(rest)?;
@@ -89,8 +85,7 @@ fn hold<'a>(input: Rest<'a>) -> Result<(Line<'a>, Rest<'a>), TextFault>
 }
 
 fn enter<'a>(input: Rest<'a>) -> Result<(Line<'a>, Rest<'a>), TextFault>
-    ensures reads { MatchResult result (λ p. QuietFrom entering input.entry.end input.entry.tokens.now p.0 p.1.tokens.now) (λ f. NoLineFrom entering input.entry.end input.entry.tokens.now f) }
-    ensures same_end { IfOk result (λ p. p.1.end ≡ input.entry.end) }
+    ensures { MatchResult result (λ p. QuietFrom entering input.entry p.0 p.1) (λ f. NoLineFrom entering input.entry f) }
 {
     let (n, rest) = number(input)?;
     match rest.behind(TokenKind::Keyword(Word::Set)) {
@@ -109,8 +104,7 @@ fn enter<'a>(input: Rest<'a>) -> Result<(Line<'a>, Rest<'a>), TextFault>
 }
 
 fn trans<'a>(input: Rest<'a>, guards: &mut WordList) -> Result<(Line<'a>, Rest<'a>), TextFault>
-    ensures reads { MatchResult result (λ p. LineFrom transing input.entry.end input.entry.tokens.now p.0 p.1.tokens.now (kept_in guards.old) (kept_in guards.new)) (λ f. NoLineFrom transing input.entry.end input.entry.tokens.now f) }
-    ensures same_end { IfOk result (λ p. p.1.end ≡ input.entry.end) }
+    ensures { MatchResult result (λ p. LineFrom transing input.entry p.0 p.1 (kept_in guards.old) (kept_in guards.new)) (λ f. NoLineFrom transing input.entry f) }
 {
     let (number, behind_number) = number(input)?;
     let first = word(behind_number, Word::From)?;

@@ -1,6 +1,6 @@
 //! What a line is made of: numbers, outputs, words and lists. Each reader takes what is left of the tokens, and answers what
 //! is left behind what it reads.
-ghost use Rattle.std.specs.Prelude.{◌≡◌, IfOk, MatchResult};
+ghost use Rattle.std.specs.Prelude.{MatchResult};
 ghost use Rattle.lines.specs.Parts.{ReadsNumber, NoNumber, ReadsOutput, NoOutput, ReadsWord, NoWord, ReadsEnd, NoEnd, ReadsList, NoList};
 
 use crate::shape::Number;
@@ -9,8 +9,7 @@ use faults::TextFault;
 use text::token::{Letter, Token, TokenKind, Word};
 
 pub(crate) fn number<'a>(input: Rest<'a>) -> Result<(Number, Rest<'a>), TextFault>
-    ensures reads { MatchResult result (λ p. ReadsNumber input.entry.end input.entry.tokens.now p.0 p.1.tokens.now) (λ f. NoNumber input.entry.end input.entry.tokens.now f) }
-    ensures same_end { IfOk result (λ p. p.1.end ≡ input.entry.end) }
+    ensures { MatchResult result (λ p. ReadsNumber input.entry p.0 p.1) (λ f. NoNumber input.entry f) }
 {
     let (first, rest) = input.next()?;
     match first.kind {
@@ -24,8 +23,7 @@ pub(crate) fn number<'a>(input: Rest<'a>) -> Result<(Number, Rest<'a>), TextFaul
 }
 
 pub(crate) fn output<'a>(input: Rest<'a>) -> Result<(Number, Rest<'a>), TextFault>
-    ensures reads { MatchResult result (λ p. ReadsOutput input.entry.end input.entry.tokens.now p.0 p.1.tokens.now) (λ f. NoOutput input.entry.end input.entry.tokens.now f) }
-    ensures same_end { IfOk result (λ p. p.1.end ≡ input.entry.end) }
+    ensures { MatchResult result (λ p. ReadsOutput input.entry p.0 p.1) (λ f. NoOutput input.entry f) }
 {
     let place = input.place();
     let (value, rest) = input.operand(Letter::Q)?;
@@ -33,8 +31,7 @@ pub(crate) fn output<'a>(input: Rest<'a>) -> Result<(Number, Rest<'a>), TextFaul
 }
 
 pub(crate) fn word<'a>(input: Rest<'a>, word: Word) -> Result<Rest<'a>, TextFault>
-    ensures reads { MatchResult result (λ rest. ReadsWord word input.entry.end input.entry.tokens.now rest.tokens.now) (λ f. NoWord word input.entry.end input.entry.tokens.now f) }
-    ensures same_end { IfOk result (λ rest. rest.end ≡ input.entry.end) }
+    ensures { MatchResult result (λ rest. ReadsWord word input.entry rest) (λ f. NoWord word input.entry f) }
 {
     let other = TextFault::Unexpected(input.place());
     input.behind(TokenKind::Keyword(word)).ok_or(other)
@@ -42,8 +39,7 @@ pub(crate) fn word<'a>(input: Rest<'a>, word: Word) -> Result<Rest<'a>, TextFaul
 
 /// The end of the line.
 pub(crate) fn finish<'a>(input: Rest<'a>) -> Result<Rest<'a>, TextFault>
-    ensures reads { MatchResult result (λ rest. ReadsEnd input.entry.end input.entry.tokens.now rest.tokens.now) (λ f. NoEnd input.entry.end input.entry.tokens.now f) }
-    ensures same_end { IfOk result (λ rest. rest.end ≡ input.entry.end) }
+    ensures { MatchResult result (λ rest. ReadsEnd input.entry rest) (λ f. NoEnd input.entry f) }
 {
     match input.tokens {
         [] => Ok(input),
@@ -54,8 +50,7 @@ pub(crate) fn finish<'a>(input: Rest<'a>) -> Result<Rest<'a>, TextFault>
 
 /// Numbers with `,` between them, up to the word: their tokens and the word, and those behind.
 pub(crate) fn list<'a>(input: Rest<'a>, until: Word) -> Result<(&'a [Token], Rest<'a>), TextFault>
-    ensures reads { MatchResult result (λ p. ReadsList until input.entry.end input.entry.tokens.now p.0.now p.1.tokens.now) (λ f. NoList until input.entry.end input.entry.tokens.now f) }
-    ensures same_end { IfOk result (λ p. p.1.end ≡ input.entry.end) }
+    ensures { MatchResult result (λ p. ReadsList until input.entry p.0.now p.1) (λ f. NoList until input.entry f) }
 {
     let (_, mut rest) = number(input)?;
     while let Some(after) = rest.behind(TokenKind::Comma) {

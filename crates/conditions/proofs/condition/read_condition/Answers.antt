@@ -10,7 +10,7 @@ returns-clause-reads c =
     MatchResult-weaker c.condition.result c.condition.ensures
     (λ x r.
     let is = r.passes none (sym c.outside.ensures) ∙ stopped _ _ _ _ r.undotted r.unadded in
-    record { tree = join r.others r.last; is = is; begins = sound _ _ _ _ is; emitted = r.emitted })
+    record { tree = join r.others r.last; is = is; begins = sound _ _ _ _ is; emitted = r.emitted; same_end = r.later.same_end })
     (λ f r. r.fails none (sym c.outside.ensures))
 
 pub returns-clause-only_tree : goal.returns-clause-only_tree

@@ -1,5 +1,6 @@
-use Rattle.std.proofs.Common.{◌<◌, length, rules}
+use Rattle.std.proofs.Common.{◌<◌, length, sym, ap, ◌∙◌, rules}
 use Rattle.std.proofs.lemmas.Result.{err_from_is_err_and}
+use Rattle.lines.specs.Text.{read_lines, between, put}
 use Rattle.lines.proofs.WholeText.{first_line, first_fails}
 use Rattle.lines.proofs.line.next_line.Goals as goal
 
@@ -13,12 +14,13 @@ pub returns : goal.returns
 returns c =
     let some : 0 < length c.args.input.tokens.now = search rules in
     let line = c.in_ok-line.ensures.reads in
+    let rest = c.in_ok-line.rest in
     record {
       tree = line.tree;
-      first = first_line _ _ _ _ some line.is;
+      first = first_line _ _ _ _ some line.is ∙ ap (λ e. put line.tree (read_lines rest.tokens.now between e)) (sym line.same_end);
       shown = line.shown;
       fits = line.fits;
       emitted = line.emitted;
-      same_end = c.in_ok-line.ensures.same_end;
       shorter = line.shorter some;
+      same_end = line.same_end;
     }

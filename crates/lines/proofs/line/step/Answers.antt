@@ -4,18 +4,16 @@ use Rattle.lines.specs.Grammar as line
 use Rattle.lines.proofs.Reading.{not_initial}
 use Rattle.lines.proofs.line.step.Goals as goal
 
-pub returns-in_err-left-in-None-clause-reads : goal.returns-in_err-left-in-None-clause-reads
-returns-in_err-left-in-None-clause-reads c =
+pub returns-in_err-left-in-None : goal.returns-in_err-left-in-None
+returns-in_err-left-in-None c =
     let p = err_from_is_err_and c.from_residual-in_err-left-in-None.result c.from_residual-in_err-left-in-None.ensures.1 in
-    let left = rw c.in_ok-n.ensures.same_end at c.in_err-left-in-None.ensures.reads in
-    rw (p.1, p.2) (record { fails = not_initial c.in_ok-n.ensures.reads c.in-None.ensures ∙ left.fails _ })
+    rw (p.1, p.2) (record { fails = not_initial c.in_ok-n.ensures c.in-None.ensures ∙ c.in_err-left-in-None.ensures.fails _ })
 
-pub returns-in_ok-left-in-None-clause-reads : goal.returns-in_ok-left-in-None-clause-reads
-returns-in_ok-left-in-None-clause-reads c =
-    let left = rw c.in_ok-n.ensures.same_end at c.in_ok-left-in-None.ensures.reads in
-    record {
-      tree = line.step c.in_ok-n.n false;
-      is = not_initial c.in_ok-n.ensures.reads c.in-None.ensures ∙ left.passes _;
-      shown = refl;
-      quiet = refl;
-    }
+pub returns-in_ok-left-in-None : goal.returns-in_ok-left-in-None
+returns-in_ok-left-in-None c = record {
+  tree = line.step c.in_ok-n.n false;
+  is = not_initial c.in_ok-n.ensures c.in-None.ensures ∙ c.in_ok-left-in-None.ensures.passes _;
+  shown = refl;
+  quiet = refl;
+  same_end = c.in_ok-left-in-None.ensures.same_end ∙ c.in_ok-n.ensures.same_end;
+}
