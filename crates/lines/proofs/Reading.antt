@@ -31,7 +31,7 @@ use Rattle.lines.specs.Grammar as line
 use Rattle.lines.specs.Grammar.{Numbers, one, more, items, digits, Small}
 use Rattle.lines.specs.Scan as automaton
 use Rattle.lines.specs.Scan.{State, Move, scan, step, follow, goes, done, fault, reads, fails, number, output, word, listed, initial, verb, guard, end, same, only, stepping, entering, transing, start, noted, refs, guarded}
-use Rattle.lines.specs.Parts.{going, ReadsNumber, NoNumber, ReadsWord, NoWord, ReadsEnd, ReadsList, NoList, LineFrom, QuietFrom, NoLineFrom, counted, numbers_in}
+use Rattle.lines.specs.Parts.{going, ReadsNumber, ReadsWord, NoWord, ReadsEnd, ReadsList, NoList, LineFrom, QuietFrom, NoLineFrom, counted, numbers_in}
 use Rattle.lines.specs.Guards.{step_tests}
 
 -- one step of the scan
@@ -159,9 +159,6 @@ list_more {w} {from} {rest} {after} {rest'} {n} s b r =
       passes = λ k. s.passes k ∙ comma_on s.tree w k b ∙ r.passes (λ n. listed (more s.tree n) w k);
       same_end = r.same_end ∙ b.same_end ∙ s.same_end;
     }
-
-pub list_none : {w : Word} {from rest after : Rest} {f : TextFault} → ListSoFar w from rest → Behind Comma rest after → NoNumber after f → NoList w from f
-list_none {w} s b r = record { fails = λ k. s.passes k ∙ comma_on s.tree w k b ∙ r.fails (λ n. listed (more s.tree n) w k) }
 
 unless_comma : (ns : Numbers) (w : Word) (next : Numbers → State) (at : ℕ) (k : TokenKind) → (k ≡ Comma → ⊥) → step (listed ns w next) at k ≡ step (word w (next ns)) at k
 unless_comma ns w next at (Keyword v) h = refl

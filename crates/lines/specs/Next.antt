@@ -1,5 +1,5 @@
 -- The lines of a text, taken one after another. Assumes nothing.
-use Rattle.std.specs.Prelude.{◌≡◌, ℕ, ◌<◌, List, [], length, Some, None, Ok, Err, Option, Result}
+use Rattle.std.specs.Prelude.{◌≡◌, ◌<◌, List, [], length, Some, None, Ok, Err, Option, Result}
 use Rattle.faults.specs.declared.TextFault.{TextFault}
 use Rattle.words.specs.Emitted.{Kept, pushed}
 use Rattle.conditions.specs.declared.rest.Rest.{Rest}

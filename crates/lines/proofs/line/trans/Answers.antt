@@ -1,4 +1,4 @@
-use Rattle.std.proofs.Common.{[], ◌∷◌, length, refl, ap, ◌∙◌, arith, length-append}
+use Rattle.std.proofs.Common.{[], ◌∷◌, refl, ap, ◌∙◌, arith}
 use Rattle.std.proofs.lemmas.Result.{err_from_is_err_and}
 use Rattle.words.specs.declared.instruction.Instruction.TheVariants as instruction
 use Rattle.words.specs.Emitted.{kept_in, pushed}
@@ -29,9 +29,6 @@ returns-in_err-left c =
     let guard = c.in_ok-to.guard in
     let g = guard_reads c.in_ok-number.number c.in_ok-from.ensures.tree c.in_ok-to.ensures.tree [] condition.start guard.end guard.tokens.now c.in_ok-rest.rest.tokens.now w.tree w.is in
     rw (p.1, p.2) (record { fails = up_to_when c.in_ok-number.ensures c.in_ok-first.ensures c.in_ok-from.ensures c.in_ok-to.ensures ∙ guard_passes w g ∙ c.in_err-left.ensures.fails _ })
-
-pub slice_bounds-condition-count : goal.slice_bounds-condition-count
-slice_bounds-condition-count c = let b = c.in_ok-rest.ensures.reads.begins in omega (arith, ap length b.split ∙ length-append b.used c.in_ok-rest.rest.tokens.now)
 
 pub returns : goal.returns
 returns c =
