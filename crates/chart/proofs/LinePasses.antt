@@ -2,10 +2,9 @@
 use Rattle.std.proofs.Common.{◌≡◌, ℕ, Bool, ◌||◌, List, [], ◌∷◌, ◌++◌, Ok, Err, Option, Result, sym, refl, ap, ◌∙◌, subst, arith}
 use Rattle.faults.specs.declared.TextFault.{TextFault}
 use Rattle.faults.specs.declared.ChartFault.{ChartFault}
-use Rattle.text.specs.declared.token.Token.{Token}
 use Rattle.lines.specs.declared.shape.Number.{Number}
 use Rattle.lines.specs.Grammar.{Tree}
-use Rattle.lines.specs.Text.{read_lines, between, put}
+use Rattle.lines.specs.Text.{put}
 use Rattle.chart.specs.Said.{steps_of, is_initial, all}
 use Rattle.chart.specs.Checks.{has, same_number, noted, faults_in, chart_faults, has_initial, first_of, judged, checked, on_lines}
 use Rattle.chart.specs.declared.set.NumberSet.{NumberSet}
@@ -36,13 +35,10 @@ on_put : {A : Type 0} (f g : List Tree → A) (t : Tree) (r : Result (List Tree)
 on_put f g t (Ok ls) h = ap (λ x. Ok x) (h ls)
 on_put f g t (Err e) h = refl
 
-pub fault_more : (ns : List Number) (before : List Tree) (t : Tree) (first last : Option ChartFault) (rest after : List Token) (e : ℕ) (whole : Result (Option ChartFault) TextFault) → read_lines rest between e ≡ put t (read_lines after between e) → last ≡ noted first (faults_in ns before t) → on_lines (faults_from ns before first) (read_lines rest between e) ≡ whole → on_lines (faults_from ns (t ∷ before) last) (read_lines after between e) ≡ whole
-fault_more ns before t first last rest after e whole is n h =
-    sym (on_put (faults_from ns before first) (faults_from ns (t ∷ before) last) t (read_lines after between e) (λ ls. noted_append first (faults_in ns before t) (chart_faults ns (t ∷ before) ls) ∙ ap (λ k. noted k (chart_faults ns (t ∷ before) ls)) (sym n))) ∙
+pub fault_more : (ns : List Number) (before : List Tree) (t : Tree) (first last : Option ChartFault) (rest after : Result (List Tree) TextFault) (whole : Result (Option ChartFault) TextFault) → rest ≡ put t after → last ≡ noted first (faults_in ns before t) → on_lines (faults_from ns before first) rest ≡ whole → on_lines (faults_from ns (t ∷ before) last) after ≡ whole
+fault_more ns before t first last rest after whole is n h =
+    sym (on_put (faults_from ns before first) (faults_from ns (t ∷ before) last) t after (λ ls. noted_append first (faults_in ns before t) (chart_faults ns (t ∷ before) ls) ∙ ap (λ k. noted k (chart_faults ns (t ∷ before) ls)) (sym n))) ∙
     (ap (on_lines (faults_from ns before first)) (sym is) ∙ h)
-
-pub fault_fails : {A : Type 0} (f : List Tree → A) (rest : List Token) (e : ℕ) (x : TextFault) (whole : Result A TextFault) → read_lines rest between e ≡ Err x → on_lines f (read_lines rest between e) ≡ whole → Err x ≡ whole
-fault_fails f rest e x whole is h = sym (ap (on_lines f) is) ∙ h
 
 -- ---- the answer of both passes
 abbrev pub faults_by : List Number → List Tree → Option ChartFault

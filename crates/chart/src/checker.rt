@@ -1,6 +1,6 @@
 //! The checks over a whole text.
 ghost use Rattle.std.specs.Prelude.{◌≡◌, [], IfOk};
-ghost use Rattle.lines.specs.Text.{read_lines, between};
+ghost use Rattle.lines.specs.Next.{lines_left};
 ghost use Rattle.chart.specs.Checks.{checked};
 ghost use Rattle.chart.specs.First.{FirstFault};
 ghost use Rattle.chart.specs.Seen.{Remembers};
@@ -32,8 +32,8 @@ impl Checker {
 
     /// Whether the lines of a text describe a chart, or the first fault; `words` is for scratch.
     pub fn check(&mut self, text: Rest<'_>, words: &mut WordList) -> Result<(), ChartFault>
-        ensures checked { result ≡ checked (read_lines text.entry.tokens.now between text.entry.end) text.entry.end }
-        ensures first_fault { FirstFault (read_lines text.entry.tokens.now between text.entry.end) text.entry.end result }
+        ensures checked { result ≡ checked (lines_left text.entry) text.entry.end }
+        ensures first_fault { FirstFault (lines_left text.entry) text.entry.end result }
     {
         let initial = find_declared(&mut self.declared, text, words)?;
         match find_fault(&mut self.seen, &self.declared, text, words)? {

@@ -3,7 +3,7 @@ ghost use Rattle.std.specs.Prelude.{◌≡◌, List, [], ◌∷◌, ◌++◌, Er
 ghost use Rattle.lines.specs.declared.shape.Number.{Number as TheNumber};
 ghost use Rattle.lines.specs.Grammar.{Tree};
 ghost use Rattle.lines.specs.Parts.{Shows};
-ghost use Rattle.lines.specs.Text.{read_lines, between};
+ghost use Rattle.lines.specs.Next.{lines_left};
 ghost use Rattle.chart.specs.Said.{steps_of, is_initial, all};
 ghost use Rattle.chart.specs.Checks.{chart_faults, first_of, on_lines};
 ghost use Rattle.chart.specs.Sets.{Knows};
@@ -37,7 +37,7 @@ pub(crate) fn find_declared(
     text: Rest<'_>,
     words: &mut WordList,
 ) -> Result<bool, TextFault>
-    ensures { MatchResult result (λ initial. Declared (read_lines text.entry.tokens.now between text.entry.end) initial declared.new) (λ f. read_lines text.entry.tokens.now between text.entry.end ≡ Refused f) }
+    ensures { MatchResult result (λ initial. Declared (lines_left text.entry) initial declared.new) (λ f. lines_left text.entry ≡ Refused f) }
 {
     declared.clear();
     let mut any_initial = false;
@@ -56,7 +56,7 @@ pub(crate) fn find_fault(
     text: Rest<'_>,
     words: &mut WordList,
 ) -> Result<Option<ChartFault>, TextFault>
-    ensures { (ns : List TheNumber) → Knows declared.now ns → result ≡ on_lines (λ ls. first_of (chart_faults ns [] ls)) (read_lines text.entry.tokens.now between text.entry.end) }
+    ensures { (ns : List TheNumber) → Knows declared.now ns → result ≡ on_lines (λ ls. first_of (chart_faults ns [] ls)) (lines_left text.entry) }
 {
     seen.clear();
     let mut findings = Findings {

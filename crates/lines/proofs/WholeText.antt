@@ -92,9 +92,6 @@ left_all from = before_none (lines_left from)
 pub left_less : (from rest after : Rest) (ls : List Tree) (l : Tree) → Left from ls rest → lines_left rest ≡ put l (lines_left after) → Left from (ls ++ l ∷ []) after
 left_less from rest after ls l h first = h ∙ ap (λ z. before ls z) first ∙ before_put ls l (lines_left after)
 
-pub left_fails : (from rest : Rest) (ls : List Tree) (f : TextFault) → Left from ls rest → lines_left rest ≡ Err f → lines_left from ≡ Err f
-left_fails from rest ls f h failing = h ∙ ap (λ z. before ls z) failing
-
 -- the lines of a text
 before_lines : (l : Tree) (ls : List Tree) (r : Lines) → put l (before ls r) ≡ before (l ∷ ls) r
 before_lines l ls (Ok ms) = refl

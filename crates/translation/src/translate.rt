@@ -2,7 +2,7 @@
 ghost use Rattle.std.specs.Prelude.{◌≡◌, List, IfOk, Ok};
 ghost use Rattle.lines.specs.Grammar.{Tree, step as stepLine};
 ghost use Rattle.lines.specs.Parts.{Shows};
-ghost use Rattle.lines.specs.Text.{read_lines, between};
+ghost use Rattle.lines.specs.Next.{lines_left};
 ghost use Rattle.translation.specs.Translation.{started};
 ghost use Rattle.translation.specs.Soundness.{SoundParts};
 ghost use Rattle.translation.specs.Drafts.{sketch_of, blank, noted, closed, Reads, Translated};
@@ -85,7 +85,7 @@ impl Draft {
 
     // Takes the lines of a text, with the words that test their transitions.
     fn read(&mut self, text: Rest<'_>) -> Result<(), TextFault>
-        ensures { Reads (read_lines text.entry.tokens.now between text.entry.end) (sketch_of self.old) (sketch_of self.new) result }
+        ensures { Reads (lines_left text.entry) (sketch_of self.old) (sketch_of self.new) result }
     {
         let mut rest = text;
         while let Some((line, behind)) = next_line(rest, &mut self.clear)? {
@@ -105,8 +105,8 @@ impl Draft {
 
     /// Drafts the parts of a text, or names its first fault.
     pub fn translate(&mut self, text: Rest<'_>) -> Result<(), TextFault>
-        ensures drafted { Translated (read_lines text.entry.tokens.now between text.entry.end) self.new result }
-        ensures sound { (lines : List Tree) → read_lines text.entry.tokens.now between text.entry.end ≡ Ok lines → SoundParts lines }
+        ensures drafted { Translated (lines_left text.entry) self.new result }
+        ensures sound { (lines : List Tree) → lines_left text.entry ≡ Ok lines → SoundParts lines }
     {
         self.erase();
         self.read(text)?;

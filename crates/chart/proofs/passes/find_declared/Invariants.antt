@@ -7,9 +7,7 @@ use Rattle.chart.specs.Sets.{Knows}
 use Rattle.chart.proofs.passes.find_declared.Given as goal
 
 abbrev pub invariant-loop-line : goal.invariant-loop-line
-invariant-loop-line l =
-    (l.rest.end ≡ l.text.end) ×
-    ((ls : List Tree) × (Left l.text.tokens.now l.text.end ls l.rest.tokens.now) × (l.any_initial ≡ has_initial ls) × Knows l.declared (all steps_of ls))
+invariant-loop-line l = (ls : List Tree) × Left l.text ls l.rest × (l.any_initial ≡ has_initial ls) × Knows l.declared (all steps_of ls)
 
 abbrev pub decreases-loop-line : goal.decreases-loop-line
 decreases-loop-line l = length l.rest.tokens.now

@@ -1,7 +1,7 @@
 use Rattle.std.proofs.Common.{◌≡◌, List, [], length}
 use Rattle.lines.specs.declared.shape.Number.{Number}
 use Rattle.lines.specs.Grammar.{Tree}
-use Rattle.lines.specs.Text.{read_lines, between}
+use Rattle.lines.specs.Next.{lines_left}
 use Rattle.chart.specs.Checks.{noted, chart_faults, first_of, on_lines}
 use Rattle.chart.specs.Sets.{Knows}
 use Rattle.chart.specs.Seen.{Remembers}
@@ -9,10 +9,9 @@ use Rattle.chart.proofs.passes.find_fault.Given as goal
 
 abbrev pub invariant-loop-line : goal.invariant-loop-line
 invariant-loop-line l =
-    (l.rest.end ≡ l.text.end) ×
-    ((before : List Tree) × (Remembers l.seen before) × (l.findings.declared.now ≡ l.declared) ×
+    (before : List Tree) × Remembers l.seen before × (l.findings.declared.now ≡ l.declared) ×
     ((ns : List Number) → Knows l.declared ns →
-    on_lines (λ ls. noted l.findings.first (chart_faults ns before ls)) (read_lines l.rest.tokens.now between l.text.end) ≡ on_lines (λ ls. first_of (chart_faults ns [] ls)) (read_lines l.text.tokens.now between l.text.end)))
+    on_lines (λ ls. noted l.findings.first (chart_faults ns before ls)) (lines_left l.rest) ≡ on_lines (λ ls. first_of (chart_faults ns [] ls)) (lines_left l.text))
 
 abbrev pub decreases-loop-line : goal.decreases-loop-line
 decreases-loop-line l = length l.rest.tokens.now
