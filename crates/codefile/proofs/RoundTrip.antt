@@ -120,9 +120,6 @@ checked_from bs l c is s =
     ap (scanned Hold (44 + l.clear + l.enter) false 0) is.hold ∙ sound_scan Hold (44 + l.clear + l.enter) 0 c.hold s.holds in
     rw (clear, enter, hold)
 
-abbrev code : ℕ → List ℕ → List ℕ → List ℕ → Code
-code i a b d = record { initial = i; clear = a; enter = b; hold = d }
-
 contents_from : (bs : List ℕ) (l : Layout) (c : Code) → le_at bs 36 + le_at bs 40 * 4294967296 ≡ c.initial → PartsAre bs l c → contents bs l ≡ c
 contents_from bs l c e is = rw (e, is.clear, is.enter, is.hold)
 
