@@ -46,6 +46,7 @@ pub fn read_condition<'a>(input: Rest<'a>, out: &mut WordList) -> Result<Rest<'a
 }
 
 #[cycle(condition_factor_primary_term)]
+#[tactic(auto, using(crate::proofs::Steps::or_more))]
 fn condition<'a>(input: Rest<'a>, depth: Depth, out: &mut WordList) -> Result<Rest<'a>, TextFault>
     ensures { MatchResult result (λ rest. ReadsCondition depth.brackets input.entry (kept_in out.old) rest (kept_in out.new)) (λ f. NoCond depth.brackets input.entry f) }
 {
@@ -59,6 +60,7 @@ fn condition<'a>(input: Rest<'a>, depth: Depth, out: &mut WordList) -> Result<Re
 }
 
 #[cycle(condition_factor_primary_term)]
+#[tactic(auto, using(crate::proofs::Steps::term_started, crate::proofs::Steps::and_more))]
 fn term<'a>(input: Rest<'a>, depth: Depth, out: &mut WordList) -> Result<Rest<'a>, TextFault>
     ensures { MatchResult result (λ rest. ReadsTerm depth.brackets input.entry (kept_in out.old) rest (kept_in out.new)) (λ f. NoTerm depth.brackets input.entry f) }
 {

@@ -1,19 +1,10 @@
 use Rattle.std.proofs.Common.{[], ◌∷◌, sym, ap, ◌∙◌}
 use Rattle.words.specs.Emitted.{kept_in, pushed}
 use Rattle.std.proofs.lemmas.Result.{MatchResult-weaker}
-use Rattle.conditions.proofs.Steps.{term_started, or_more, and_more, bang_read, bang_none, plain_read_factor, plain_none, atom_read, bracket_read, negating}
+use Rattle.conditions.proofs.Steps.{bang_read, bang_none, plain_read_factor, plain_none, atom_read, bracket_read, negating}
 use Rattle.conditions.proofs.Pushing.{pushed_none}
 use Rattle.conditions.proofs.condition.+condition_factor_primary_term.Goals as goal
 use Rattle.conditions.proofs.condition.+condition_factor_primary_term.Goals.{primary-then-negated, primary-else-negated}
-
-pub condition-loop-after-preserved : goal.condition-loop-after-preserved
-condition-loop-after-preserved t c = or_more c.loop-after.invariant c.in-Some.ensures c.push.ensures c.in_ok-rest-2.ensures c.push-in-Some.ensures
-
-pub term-loop-after-init : goal.term-loop-after-init
-term-loop-after-init t c = term_started c.in_ok-rest.ensures
-
-pub term-loop-after-preserved : goal.term-loop-after-preserved
-term-loop-after-preserved t c = and_more c.loop-after.invariant c.in-Some.ensures c.push.ensures c.in_ok-rest-2.ensures c.push-in-Some.ensures
 
 pub factor-returns-in-Some : goal.factor-returns-in-Some
 factor-returns-in-Some t c = MatchResult-weaker c.primary.result c.primary.ensures (λ x r. bang_read c.in-Some.ensures r) (λ f r. bang_none c.in-Some.ensures r)
