@@ -11,7 +11,7 @@ use faults::FileFault;
 use room::Reserved;
 use std::alloc::{AllocError, Global};
 
-// Fills a part with the words of its bytes.
+// Fills a part with the words of its bytes, read by a slice pattern (docs/DECISIONS.md, Forms).
 fn fill<const N: usize>(words: &mut Reserved<u32, N>, bytes: &[u8])
     requires { length bytes.now ≤ 4 * N }
     ensures { words.new ≡ words_of bytes.now }

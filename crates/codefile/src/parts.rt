@@ -39,7 +39,8 @@ fn depth_after(depth: usize, word: u32) -> usize
     }
 }
 
-// The first fault of a part that starts at a place, or whether a bracket is open at its end.
+// The first fault of a part that starts at a place, or whether a bracket is open at its end. The words are read by a
+// slice pattern, as the directory is (docs/DECISIONS.md, Forms).
 pub(crate) fn scan(part: Part, bytes: &[u8], start: usize, before: bool) -> Result<bool, FileFault>
     requires { start + length bytes.now < 2 ^ 64 }
     ensures { result ≡ scanned part start before 0 (words_of bytes.now) }

@@ -20,6 +20,8 @@ pub enum WriteFault {
     BufferTooShort(usize),
 }
 
+// The functions that put something take the buffer and a place in it. Parts of the buffer, handed on one by one, read no
+// plainer, since each place is a sum that the format gives.
 fn put_bytes(buffer: &mut [u8], at: usize, bytes: &[u8])
     requires { at + length bytes.now ≤ length buffer.old }
     ensures { buffer.new ≡ over at bytes.now buffer.old }
@@ -141,6 +143,7 @@ impl<'a> Fitting<'a> {
 
 /// Writes a code file at the beginning of the buffer and answers its length; the rest of the buffer stays as it was.
 /// Refused, it leaves all of the buffer.
+// The buffer is the caller's and a length stands beside it: no memory is asked for here.
 pub fn write(contents: Contents<'_>, buffer: &mut [u8]) -> Result<usize, WriteFault>
     ensures answer { result ≡ answered (written (code_for contents.entry) (length buffer.old)) }
     ensures buffer { buffer.new ≡ buffer_after (written (code_for contents.entry) (length buffer.old)) buffer.old }

@@ -1,5 +1,6 @@
 //! The readers of a condition. Each takes what is left of the tokens, puts the words of what it reads behind `out`, and
-//! answers what is then left.
+//! answers what is then left. Each rule of the grammar has a reader of its own, and they call each other: condition and
+//! term stay two functions for that reason (docs/DECISIONS.md, Forms).
 ghost use Rattle.std.specs.Prelude.{◌≡◌, IfErr, MatchResult};
 ghost use Rattle.text.specs.declared.token.TokenKind.TheVariants.{Open};
 ghost use Rattle.words.specs.Emitted.{kept_in};

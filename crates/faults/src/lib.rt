@@ -126,6 +126,7 @@ pub enum Fault {
     Image(ImageFault),
 }
 
+// The `From` impls are written out: clauses name what each of them gives, and a derive states none of it.
 impl From<TextFault> for ChartFault {
     ghost from_gives = { λ e r. r ≡ OfText e };
 

@@ -1,4 +1,4 @@
-//! What is wrong, in plain words.
+//! What is wrong, in plain words: fixed texts, by a match. `{}` of a fault writes its layer, number and place.
 use faults::{ChartFault, CodeFault, ControllerFault, Fault, FileFault, Section, TextFault};
 
 fn text_cause(fault: TextFault) -> &'static str {

@@ -29,6 +29,7 @@ pub enum Action {
 pub enum Line<'a> {
     Empty,
     /// A step, and whether it is initial.
+    // A bool: an enum would only name its two values.
     Step(Number, bool),
     Trans(Transition<'a>),
     /// A step, and the output that it holds.

@@ -27,7 +27,7 @@ fn letter(b: u8) -> Option<Letter>
     }
 }
 
-// The token that is a byte of its own.
+// The token that is a byte of its own. As with a letter, an Option says all that there is to say.
 fn sign(b: u8) -> Option<TokenKind>
     ensures { result ≡ sign_of b }
 {

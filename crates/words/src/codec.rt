@@ -5,7 +5,7 @@ ghost use Rattle.words.specs.Words.{packed, operand_area, operand_number, operat
 
 use crate::instruction::{Instruction, Operand, Part, Target};
 
-// What a word is made of.
+// What a word is made of. The format has numbers for operators and areas; `Instruction` is the enum of them.
 #[derive(Clone, Copy, PartialEq, Eq, Debug)]
 struct Fields {
     operator: u8,
