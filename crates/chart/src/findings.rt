@@ -39,7 +39,8 @@ impl Findings<'_> {
         }
     }
 
-    /// Notes the fault if there is one.
+    /// Notes the fault if it is one.
+    // The flag is what a set has just answered; it says nothing of whether a value is there.
     pub(crate) fn note_if(&mut self, is_fault: bool, fault: ChartFault)
         ensures { self.new ≡ noting self.old (if is_fault then fault ∷ [] else []) }
     {

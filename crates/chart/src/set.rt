@@ -7,6 +7,7 @@ use search::earliest;
 use std::alloc::{AllocError, Global};
 
 /// The numbers, each once, with room for all that there are.
+// A list that is searched, and not marks as in `table`: one generic search serves these faults (docs/DECISIONS.md, Forms).
 #[derive(Drop)]
 pub struct NumberSet {
     pub(crate) numbers: Reserved<u8, 256>,

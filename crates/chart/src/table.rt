@@ -5,7 +5,7 @@ ghost use Rattle.chart.specs.Sets.{marked, is_marked};
 use std::alloc::{AllocError, Global};
 
 /// A mark for each output.
-#[derive(Clone, Copy)]
+#[derive(Clone, Copy, PartialEq, Eq, Debug)]
 pub struct Row {
     pub(crate) marks: [bool; 256],
 }

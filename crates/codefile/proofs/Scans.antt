@@ -1,12 +1,41 @@
 -- One word of a part, as the scan meets it. Assumes nothing.
-use Rattle.std.proofs.Common.{◌≡◌, ℕ, ◌+◌, Bool, true, false, cond, ◌||◌, eqb, ltb, List, [], ◌∷◌, Ok, Err, Result, refl, ap, ◌∙◌, arith}
+use Rattle.std.specs.Prelude.{Some, None, if◌then◌else◌}
+use Rattle.std.proofs.Common.{◌≡◌, ℕ, ◌+◌, Bool, true, false, cond, ◌||◌, eqb, ltb, List, [], ◌∷◌, Ok, Err, Result, refl, ap, ◌∙◌, arith, ◌-◌, ◌≤◌, take, drop, length, sym}
+use Rattle.std.proofs.lemmas.List.{take_rest}
 use Rattle.std.proofs.lemmas.Bool.{cond-true, cond-false, or_parts, and_from, and_parts, not_from_false, not-true, ltb-false, le-ltb, eq-eqb, eqb-true}
 use Rattle.words.specs.declared.instruction.Part.{Part}
 use Rattle.words.specs.Words.{lawful}
 use Rattle.words.specs.Brackets.{spoils, after, sound}
 use Rattle.faults.specs.declared.FileFault.{FileFault}
+use Rattle.faults.specs.declared.FileFault.TheVariants.{Unbalanced}
 use Rattle.codefile.specs.Parts.{scanned}
+use Rattle.codefile.specs.File.{le32, le_at, words_of}
 use Rattle.codefile.proofs.Verdicts.{refused_not, ok_is}
+
+-- the first word, and the rest as the checker reads it
+words_more : (xs : List ℕ) → 4 ≤ length xs → words_of xs ≡ le_at xs 0 ∷ words_of (take (length xs - 4) (drop 4 xs))
+words_more [] h = absurd (omega arith)
+words_more (a ∷ []) h = absurd (omega arith)
+words_more (a ∷ (b ∷ [])) h = absurd (omega arith)
+words_more (a ∷ (b ∷ (c ∷ []))) h = absurd (omega arith)
+words_more (a ∷ (b ∷ (c ∷ (d ∷ rest)))) h = ap (λ ys. le32 a b c d ∷ words_of ys) (sym (take_rest (a ∷ (b ∷ (c ∷ (d ∷ rest)))) 4))
+
+pub scan_more : (p : Part) (at : ℕ) (owed : Bool) (depth : ℕ) (xs : List ℕ) → 4 ≤ length xs → (w : ℕ) → w ≡ le_at xs 0 → lawful p w ≡ true → owed ≡ false → spoils depth w ≡ false → (next : ℕ) → next ≡ after depth w → scanned p (at + 4) false next (words_of (take (length xs - 4) (drop 4 xs))) ≡ scanned p at owed depth (words_of xs)
+scan_more p at owed depth xs h w e good none fine next is =
+    let rest = words_of (take (length xs - 4) (drop 4 xs)) in
+    ap (λ d. scanned p (at + 4) false d rest) is
+    ∙ sym (ap (scanned p at owed depth) (words_more xs h ∙ ap (λ v. v ∷ rest) (sym e))
+    ∙ cond-true (lawful p w) _ _ good
+    ∙ ap (λ o. cond (o || spoils depth w) (Err (Unbalanced at)) (scanned p (at + 4) false (after depth w) rest)) none
+    ∙ cond-false (spoils depth w) _ _ fine)
+
+-- a word that leaves so many open does not spoil them
+pub steady : (depth word next : ℕ) → Some next ≡ (if spoils depth word then None else Some (after depth word)) → (spoils depth word ≡ false) × (next ≡ after depth word)
+steady depth word next h = cases (spoils depth word) refl h
+  where
+    cases : (b : Bool) → spoils depth word ≡ b → Some next ≡ (if b then None else Some (after depth word)) → (spoils depth word ≡ false) × (next ≡ after depth word)
+    cases true e h = let z : ◌≡◌ {A = ℕ} 0 1 = cc in absurd (omega arith)
+    cases false e h = let same : next ≡ after depth word = cc in (e, same)
 
 zero_depth : (depth : ℕ) → ltb 0 depth ≡ false → eqb depth 0 ≡ true
 zero_depth depth e = eq-eqb depth 0 (omega (arith, ltb-false 0 depth e))

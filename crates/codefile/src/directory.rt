@@ -63,10 +63,12 @@ fn directory_of(head: &[u8; 36]) -> Directory
 fn does_follow(before: Pair, pair: Pair) -> bool
     ensures { result ≡ follows before pair }
 {
-    pair.offset as u64 == before.offset as u64 + before.length as u64 && pair.length % 4 == 0
+    u64::from(pair.offset) == u64::from(before.offset) + u64::from(before.length)
+        && pair.length % 4 == 0
 }
 
-// The first section whose pair breaks a rule, in a file of this size.
+// The first section whose pair breaks a rule, in a file of this size. An Option: the answer is the section, and the caller
+// makes the fault of it.
 fn broken_pair(d: Directory, size: usize) -> Option<Section>
     ensures { result ≡ broken_pair d size }
 {

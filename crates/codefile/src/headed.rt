@@ -8,7 +8,7 @@ use faults::FileFault;
 use words::instruction::Part;
 
 /// The bytes of the file, and how many of them each part has.
-#[derive(Clone, Copy)]
+#[derive(Clone, Copy, PartialEq, Eq, Debug)]
 pub(crate) struct Headed<'a> {
     bytes: &'a [u8],
     lengths: Parts<usize>,

@@ -1,5 +1,5 @@
 //! The parts of a code file, judged word by word.
-ghost use Rattle.std.specs.Prelude.{◌≡◌, ◌+◌, ◌^◌, ◌<◌, false, length};
+ghost use Rattle.std.specs.Prelude.{◌≡◌, ◌+◌, ◌^◌, ◌<◌, length, Some, None, if◌then◌else◌};
 ghost use Rattle.words.specs.Brackets.{spoils, after};
 ghost use Rattle.codefile.specs.Parts.{scanned};
 ghost use Rattle.codefile.specs.File.{words_of};
@@ -17,25 +17,15 @@ pub struct Parts<T> {
     pub hold: T,
 }
 
-// Whether a word spoils the brackets, so many being open.
-fn does_spoil(depth: usize, word: u32) -> bool
-    ensures { result ≡ spoils depth word }
+// How many brackets are open behind a word, so many being open before it, or None where the word spoils them. By the
+// operators of the format, of which 7 and 8 open a bracket and 9 closes one.
+fn depth_after(depth: usize, word: u32) -> Option<usize>
+    ensures { result ≡ (if spoils depth word then None else Some (after depth word)) }
 {
     match word >> 24 {
-        7 | 8 => depth >= 17,
-        9 => depth == 0,
-        _ => false,
-    }
-}
-
-fn depth_after(depth: usize, word: u32) -> usize
-    requires { spoils depth word ≡ false }
-    ensures { result ≡ after depth word }
-{
-    match word >> 24 {
-        7 | 8 => depth + 1,
-        9 => depth - 1,
-        _ => depth,
+        7 | 8 => (depth < 17).then(|| depth + 1),
+        9 => depth.checked_sub(1),
+        _ => Some(depth),
     }
 }
 
@@ -54,10 +44,10 @@ pub(crate) fn scan(part: Part, bytes: &[u8], start: usize, before: bool) -> Resu
         if !is_lawful(part, word) {
             return Err(FileFault::UnlawfulWord(place));
         }
-        if owed || does_spoil(depth, word) {
-            return Err(FileFault::Unbalanced(place));
-        }
-        depth = depth_after(depth, word);
+        depth = match depth_after(depth, word) {
+            Some(after) if !owed => after,
+            _ => return Err(FileFault::Unbalanced(place)),
+        };
         owed = false;
         left = rest;
     }

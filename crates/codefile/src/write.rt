@@ -5,6 +5,7 @@ ghost use Rattle.codefile.specs.Written.{bytes32, word_bytes, pair_bytes, direct
 use crate::directory::{Directory, Pair};
 
 /// What a code file is to hold: the steps that are active first, bit n for step n, and the words of each part.
+// Not a `Parts` beside the steps: callers write these fields out.
 #[derive(Clone, Copy, PartialEq, Eq, Debug)]
 pub struct Contents<'a> {
     pub initial: u64,
@@ -84,7 +85,7 @@ fn section(offset: u32, words: &[u32]) -> Pair
 }
 
 // Contents of at most 4,096 words, which a code file can hold.
-#[derive(Clone, Copy)]
+#[derive(Clone, Copy, PartialEq, Eq, Debug)]
 struct Fitting<'a> {
     contents: Contents<'a>,
     ghost few: { word_count (code_for contents) ≤ 4096 },

@@ -1,5 +1,8 @@
 -- What compile answers, from its two steps. Assumes nothing.
-use Rattle.std.proofs.Common.{◌≡◌, ℕ, ◌-◌, ◌≤◌, Bool, true, false, cond, ltb, List, length, take, IfOk, Ok, Err, Result, sym, refl, ap, ◌∙◌, subst, arith}
+use Rattle.std.proofs.Common.{◌≡◌, ℕ, ◌≤◌, Bool, true, false, cond, ltb, List, length, take, IfOk, Ok, Err, Result, sym, refl, ap, ◌∙◌, subst, arith}
+use Rattle.std.specs.Prelude.{IsOk}
+use Rattle.codefile.specs.declared.program.Program.{Program}
+use Rattle.codefile.specs.Loads.{Loads}
 use Rattle.std.proofs.lemmas.Bool.{ltb-false}
 use Rattle.faults.specs.declared.TextFault.{TextFault}
 use Rattle.faults.specs.declared.ChartFault.{ChartFault}
@@ -102,9 +105,6 @@ within text room r h =
     subst M (sym h) (chart_within (chart_of_text text) (length text) room)
 
 -- ---- load after compile
--- the part of a buffer from its start
-from_start : (n : ℕ) (buffer : List ℕ) (r : Result Code FileFault) → code_of (take n buffer) ≡ r → code_of (take (n - 0) buffer) ≡ r
-from_start n buffer r h = let part : n - 0 ≡ n = omega arith in ap (λ k. code_of (take k buffer)) part ∙ h
-
-pub never_refused : (text buffer : List ℕ) (n : ℕ) (f : FileFault) → LoadsAs text n buffer → code_of (take (n - 0) buffer) ≡ Err f → ⊥
-never_refused text buffer n f l h = refused_not f (program_of l.lines) (sym h ∙ from_start n buffer (Ok (program_of l.lines)) l.loads)
+pub never_refused : (text buffer : List ℕ) (n : ℕ) (old new : Program) (r : Result (Unit {0}) FileFault) → LoadsAs text n buffer → Loads (take n buffer) old new r → IsOk r
+never_refused text buffer n old new (Ok x) l h = refl
+never_refused text buffer n old new (Err f) l h = absurd (refused_not f (program_of l.lines) (sym h.0 ∙ l.loads))

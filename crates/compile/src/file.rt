@@ -11,7 +11,7 @@ use codefile::write::{WriteFault, write};
 use faults::CodeFault;
 use translation::draft::Draft;
 
-// Why a code file is not written, of a text that ends at `end`.
+// Why a code file is not written, of a text that ends at `end`. No `From`: the text's end comes in besides.
 fn code_fault(end: usize, fault: WriteFault) -> CodeFault
     ensures { result ≡ code_fault end fault }
 {

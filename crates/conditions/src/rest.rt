@@ -30,10 +30,8 @@ impl<'a> Rest<'a> {
     pub fn next(self) -> Result<(Token, Rest<'a>), TextFault>
         ensures { MatchResult result (λ p. Takes self.entry p.0 p.1) (λ f. NoneLeft self.entry f) }
     {
-        let Some((first, tokens)) = self.tokens.split_first() else {
-            return Err(TextFault::Unexpected(self.end));
-        };
         let end = self.end;
+        let (first, tokens) = self.tokens.split_first().ok_or(TextFault::Unexpected(end))?;
         Ok((*first, Rest { tokens, end }))
     }
 

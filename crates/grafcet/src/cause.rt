@@ -1,4 +1,5 @@
-//! What is wrong, in plain words: fixed texts, by a match. `{}` of a fault writes its layer, number and place.
+//! What is wrong, in plain words: fixed texts, by a match. No `Display`: `{}` of a fault writes its layer, number and place,
+//! and these words are the program's own.
 use faults::{ChartFault, CodeFault, ControllerFault, Fault, FileFault, Section, TextFault};
 
 fn text_cause(fault: TextFault) -> &'static str {

@@ -6,7 +6,8 @@ use std::alloc::{AllocError, Global};
 // So many bytes of a long line are shown before a place, and as many behind it.
 const MARGIN: usize = 100;
 
-// Where the line begins, or a hundred bytes before the place.
+// Where the line begins, or a hundred bytes before the place. A text and a place stay two parameters: each caller has both
+// from elsewhere, and nothing is kept of them.
 fn start_of(text: &[u8], place: usize) -> usize
     requires { place ≤ length text.now }
     ensures before { (result ≤ place) × (place ≤ result + MARGIN) }

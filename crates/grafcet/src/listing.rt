@@ -30,9 +30,7 @@ fn print_part(rt: &HostRuntime, program: &Program, part: Part, start: usize) -> 
     println!(rt; "{part:<7}  offset {start:>5}  length {length:>5}")?;
     for (index, &word) in words.iter().enumerate() {
         let place = place_of(start, index);
-        let Some(instruction) = decode(part, word) else {
-            unreachable()
-        };
+        let instruction = decode(part, word).unwrap();
         println!(rt; "{place:>8}  {word:08x}  {instruction}")?;
     }
     Ok(end)

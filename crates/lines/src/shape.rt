@@ -1,7 +1,8 @@
 //! What a line is read as. Its lists and its condition are parts of the tokens.
 use text::token::Token;
 
-/// A number up to 63, with the place of its token.
+/// A number up to 63, with the place of its token. The readers promise the bound; it is no invariant, since the definitions
+/// name the numbers of any tokens.
 #[derive(Clone, Copy, PartialEq, Eq, Debug)]
 pub struct Number {
     pub value: u8,
@@ -29,7 +30,7 @@ pub enum Action {
 pub enum Line<'a> {
     Empty,
     /// A step, and whether it is initial.
-    // A bool: an enum would only name its two values.
+    // A bool, as in the tree that the definitions have: initial or not is all there is to say.
     Step(Number, bool),
     Trans(Transition<'a>),
     /// A step, and the output that it holds.

@@ -19,7 +19,7 @@ const MOST: usize = 4;
 fn letter(b: u8) -> Option<Letter>
     ensures { result ≡ letter_of b }
 {
-    match b as char {
+    match char::from(b) {
         'I' => Some(Letter::I),
         'Q' => Some(Letter::Q),
         'X' => Some(Letter::X),
@@ -31,7 +31,7 @@ fn letter(b: u8) -> Option<Letter>
 fn sign(b: u8) -> Option<TokenKind>
     ensures { result ≡ sign_of b }
 {
-    match b as char {
+    match char::from(b) {
         '\n' => Some(TokenKind::LineEnd),
         ',' => Some(TokenKind::Comma),
         '.' => Some(TokenKind::Dot),
@@ -45,8 +45,8 @@ fn sign(b: u8) -> Option<TokenKind>
     }
 }
 
-// How many digits the bytes begin with. This run and the next are functions of their own: the count of a chain is known
-// only to the clause that mirrors it.
+// How many digits the bytes begin with. This run and the next are a function each: written where they are used, a chain's
+// count is not known there, and the proof did not close.
 fn digit_run(bytes: &[u8]) -> usize
     ensures { result ≡ digits bytes.now }
 {
@@ -76,7 +76,7 @@ fn numeral(bytes: &[u8]) -> Option<(u16, usize)>
 }
 
 // The bytes that are left of a text, and the place where they begin.
-#[derive(Clone, Copy)]
+#[derive(Clone, Copy, PartialEq, Eq, Debug)]
 struct Rest<'a> {
     bytes: &'a [u8],
     place: usize,

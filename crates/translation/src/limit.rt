@@ -13,10 +13,7 @@ use words::list::WordList;
 fn all_of(list: &WordList) -> Option<&[u32]>
     ensures { MatchOption result ((kept_in list.now).more ≡ true) (λ w. ((kept_in list.now).more ≡ false) × (w.now ≡ (kept_in list.now).words)) }
 {
-    if list.has_more() {
-        return None;
-    }
-    Some(list.words())
+    (!list.has_more()).then(|| list.words())
 }
 
 impl Draft {

@@ -39,7 +39,9 @@ impl Fields {
         requires areas { self.area < 16 }
         ensures { result ≡ packed self.operator self.area self.number }
     {
-        ((self.operator as u32) << 24) + ((self.area as u32) << 20) + ((self.number as u32) << 14)
+        (u32::from(self.operator) << 24)
+            + (u32::from(self.area) << 20)
+            + (u32::from(self.number) << 14)
     }
 
     // Whether the operator goes with the area in a part.
