@@ -30,12 +30,6 @@ head_reads bs hd long e =
     ∙ ap (λ b. if b then layout_in (directory_of hd) (broken_pair (directory_of hd) (length bs)) else Err NoMark) (sym same)
 
 -- ---- the pairs, one behind the other
-abbrev of : ℕ → ℕ → Pair
-of o l = record { offset = o; length = l }
-
-pub pair_of : {o l x y : ℕ} → o ≡ x → l ≡ y → of o l ≡ of x y
-pair_of {o} {l} {x} {y} e f = ap (λ v. of v l) e ∙ ap (λ v. of x v) f
-
 -- where the front k bytes are gone, the first pair is the one at k
 pub pair_drop : (k : ℕ) (xs ys : List ℕ) (p : Pair) → ys ≡ drop k xs → p ≡ pair_at ys 0 → p ≡ pair_at xs k
 pair_drop k xs ys p e f = f ∙ ap (λ zs. pair_at zs 0) e ∙ simp (get_or-drop, add-zero, add_assoc)

@@ -1,7 +1,7 @@
 -- Bytes that are put one after another at their places. Assumes nothing.
 use Rattle.std.proofs.Common.{◌≡◌, ℕ, ◌+◌, ◌*◌, ◌/◌, ◌%◌, ◌<◌, ◌≤◌, List, ◌++◌, length, get_or, take, drop, sym, ap, ◌∙◌, w64, arith}
 use Rattle.std.specs.Int.{to_le_bytes}
-use Rattle.std.proofs.lemmas.List.{append_assoc, length-append, length-take-le, take_at, drop_at, drop-drop, drop_more, drop_all, take-append-drop}
+use Rattle.std.proofs.lemmas.List.{append_assoc, length-append, length-take-le, take_at, drop_at, drop-drop, drop_more}
 use Rattle.codefile.specs.Written.{bytes32, bytes64, word_bytes, over}
 
 -- bytes put behind others
@@ -35,9 +35,6 @@ words_more at i ws buffer new inside fits e =
     ∙ ap (λ b. over (place + 4) (word_bytes (drop (i + 1) ws)) b) e
     ∙ over_over place (bytes32 (get_or ws i 0)) (word_bytes (drop (i + 1) ws)) buffer fits
     ∙ ap (λ l. over place (word_bytes l) buffer) (sym (drop_more ws i 0 inside))
-
-pub words_all : (place i : ℕ) (ws buffer : List ℕ) → length ws ≤ i → over place (word_bytes (drop i ws)) buffer ≡ buffer
-words_all place i ws buffer h = ap (λ l. over place (word_bytes l) buffer) (drop_all i ws h) ∙ take-append-drop place buffer
 
 -- a number's eight bytes are those of its two halves
 pub eight_bytes : (n : ℕ) → to_le_bytes w64 n ≡ bytes64 n

@@ -1,8 +1,5 @@
 -- What compile answers, from its two steps. Assumes nothing.
 use Rattle.std.proofs.Common.{◌≡◌, ℕ, ◌≤◌, Bool, true, false, cond, ltb, List, length, take, IfOk, Ok, Err, Result, sym, refl, ap, ◌∙◌, subst, arith}
-use Rattle.std.specs.Prelude.{IsOk}
-use Rattle.codefile.specs.declared.program.Program.{Program}
-use Rattle.codefile.specs.Loads.{Loads}
 use Rattle.std.proofs.lemmas.Bool.{ltb-false}
 use Rattle.faults.specs.declared.TextFault.{TextFault}
 use Rattle.faults.specs.declared.ChartFault.{ChartFault}
@@ -11,8 +8,6 @@ use Rattle.faults.specs.declared.CodeFault.TheVariants.{Chart}
 use Rattle.codefile.specs.File.{Code, code_of}
 use Rattle.codefile.specs.declared.write.WriteFault.TheVariants as write
 use Rattle.codefile.specs.Written.{written, file_of, word_count}
-use Rattle.codefile.proofs.Verdicts.{refused_not}
-use Rattle.faults.specs.declared.FileFault.{FileFault}
 use Rattle.lines.specs.Grammar.{Tree}
 use Rattle.lines.specs.Laws.{LinesUpTo, here, line}
 use Rattle.chart.specs.Checks.{chart_of}
@@ -105,6 +100,3 @@ within text room r h =
     subst M (sym h) (chart_within (chart_of_text text) (length text) room)
 
 -- ---- load after compile
-pub never_refused : (text buffer : List ℕ) (n : ℕ) (old new : Program) (r : Result (Unit {0}) FileFault) → LoadsAs text n buffer → Loads (take n buffer) old new r → IsOk r
-never_refused text buffer n old new (Ok x) l h = refl
-never_refused text buffer n old new (Err f) l h = absurd (refused_not f (program_of l.lines) (sym h.0 ∙ l.loads))

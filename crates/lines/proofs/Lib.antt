@@ -1,6 +1,5 @@
 pub mod Reading
 pub mod Testing
-pub mod Bounds
 pub mod Whole
 pub mod Wide
 pub mod Along

@@ -3,6 +3,10 @@ use Rattle.codefile.proofs.Directories.{head_reads}
 use Rattle.codefile.proofs.Layouts.{regular_lengths}
 use Rattle.codefile.proofs.directory.layout_of.Goals as goal
 
+pub returns-then-not-starts_with-clause-layout : goal.returns-then-not-starts_with-clause-layout
+returns-then-not-starts_with-clause-layout c =
+    let head = c.in-Some.ensures.cases in rw (head_reads c.args.bytes.now c.in-Some.head.now head.enough head.same) (search rules)
+
 pub returns-in-Some-broken_pair-clause-layout : goal.returns-in-Some-broken_pair-clause-layout
 returns-in-Some-broken_pair-clause-layout c =
     let head = c.in-Some.ensures.cases in rw (head_reads c.args.bytes.now c.in-Some.head.now head.enough head.same) (search rules)

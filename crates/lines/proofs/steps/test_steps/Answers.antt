@@ -1,8 +1,5 @@
 use Rattle.std.proofs.Common.{[], ◌∷◌, refl, ap, ◌∙◌}
-use Rattle.std.proofs.lemmas.List.{take_all}
 use Rattle.words.specs.Emitted.{kept_in, pushed}
-use Rattle.lines.specs.Parts.{numbers_in}
-use Rattle.lines.specs.Guards.{step_tests}
 use Rattle.lines.proofs.Testing.{test_on, test_off}
 use Rattle.lines.proofs.steps.test_steps.Goals as goal
 use Rattle.lines.proofs.steps.test_steps.Goals.{in-Some, in_default}
@@ -21,6 +18,3 @@ loop-t-preserved c =
           let m = test_off (kept_in c.args.out.now) (kept_in c.loop-t.out) c.args.list.now c.loop-t.t-index _ c.loop-t.first c.loop-t-test.true c.loop-t.invariant.0 c.loop-t.invariant.1 w.in_default.ensures in
           (ap kept_in w.out-is ∙ m.0, w.first-is ∙ m.1)
     ]
-
-pub returns : goal.returns
-returns c = c.loop-t.invariant.0 ∙ ap (λ l. pushed (kept_in c.args.out.now) (step_tests (numbers_in l))) (take_all c.loop-t.t-index c.args.list.now c.loop-t-test.false)
