@@ -1,18 +1,21 @@
 -- What the arguments of the program ask for. Assumes nothing.
-use Rattle.std.specs.Prelude.{◌≡◌, ℕ, ◌<◌, ◌≤◌, List, [], length, Some, None, codes, Option, ◌≢◌, slice_index_or}
+use Rattle.std.specs.Prelude.{◌≡◌, ℕ, ◌+◌, ◌<◌, ◌≤◌, List, [], length, Some, None, codes, Option, ◌≢◌, slice_index_or}
 use Rattle.grafcet.specs.declared.Command.{Command}
-use Rattle.grafcet.specs.declared.Command.TheVariants.{Demo, Load}
-use Rattle.grafcet.specs.declared.Compilation.{Compilation}
+use Rattle.grafcet.specs.declared.Command.TheVariants.{Demo, Compile, Load}
 
--- the first text is the program's own name
+-- text k of the arguments; the first one, text 0, is the program's own name
+abbrev pub text : List (List ℕ) → ℕ → List ℕ
+text texts k = slice_index_or texts k []
+
+-- the word of a command, with n texts behind it
+abbrev pub Says : List (List ℕ) → List ℕ → ℕ → Type 0
+Says texts word n = (length texts ≡ 2 + n) × (text texts 1 ≡ word)
+
+abbrev pub Silent : List (List ℕ) → List ℕ → ℕ → Type 0
+Silent texts word n = length texts ≡ 2 + n → text texts 1 ≢ word
+
 abbrev pub Asks : List (List ℕ) → Option Command → Type 0
 Asks texts (Some Demo) = length texts ≤ 1
-Asks texts (Some (Load path)) = (length texts ≡ 3) × (slice_index_or texts 1 [] ≡ codes "load") × (path.now ≡ slice_index_or texts 2 [])
-Asks texts None = (1 < length texts) × (length texts ≡ 3 → slice_index_or texts 1 [] ≢ codes "load")
-
--- `compile`, the file of a chart, and the file that its code goes to
-abbrev pub AsksToCompile : List (List ℕ) → Option Compilation → Type 0
-AsksToCompile texts (Some files) =
-    (length texts ≡ 4) × (slice_index_or texts 1 [] ≡ codes "compile")
-    × (files.chart.now ≡ slice_index_or texts 2 []) × (files.out.now ≡ slice_index_or texts 3 [])
-AsksToCompile texts None = length texts ≡ 4 → slice_index_or texts 1 [] ≢ codes "compile"
+Asks texts (Some (Compile chart out)) = Says texts (codes "compile") 2 × (chart.now ≡ text texts 2) × (out.now ≡ text texts 3)
+Asks texts (Some (Load path)) = Says texts (codes "load") 1 × (path.now ≡ text texts 2)
+Asks texts None = (1 < length texts) × Silent texts (codes "compile") 2 × Silent texts (codes "load") 1

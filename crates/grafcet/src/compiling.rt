@@ -1,4 +1,6 @@
 //! `grafcet compile CHART OUT`: compiles a chart text to a code file.
+ghost use Rattle.std.specs.Prelude.{◌≡◌, ℕ, ◌+◌, ◌*◌};
+
 use crate::cause::cause_of;
 use crate::excerpt::excerpt;
 use crate::failure::Failure;
@@ -12,9 +14,16 @@ use std::{fs, io};
 /// The length of the longest code file: 44 bytes and 4,096 words.
 pub const LONGEST: usize = 16428;
 
+// The number of words in a code file of this length: 44 bytes stand before them, and each has four.
+fn words_in(length: usize) -> usize
+    ensures { (words : ℕ) → length ≡ 44 + 4 * words → result ≡ words }
+{
+    length.saturating_sub(44) / 4
+}
+
 /// The line of an accepted text.
 pub fn print_compiled(rt: &HostRuntime, length: usize) -> io::Result<()> {
-    let words = length.saturating_sub(44) / 4;
+    let words = words_in(length);
     println!(rt; "compiled {length} bytes {words} words")
 }
 

@@ -1,11 +1,14 @@
-//! `grafcet` alone: a code file is loaded and listed, and damaged copies of it are refused.
+//! `grafcet` alone: a chart text is compiled, its code file is loaded and listed, and wrong texts and damaged files are
+//! refused.
 use crate::cause::cause_of;
+use crate::compiling::{LONGEST, print_compiled};
 use crate::damage::{Damage, try_damaged};
-use crate::example::{FILE, TEXT};
+use crate::example::{TEXT, WRONG};
 use crate::failure::Failure;
 use crate::listing::{print_loaded, print_words};
 use codefile::program::Program;
-use faults::{Fault, FileFault};
+use compile::compiler::Compiler;
+use faults::Fault;
 use std::io;
 
 // Six of the damaged variants of docs/code-file.md.
@@ -18,10 +21,18 @@ const DAMAGES: [(&str, Damage); 6] = [
     ("an unclosed bracket", Damage::Byte(59, 10)),
 ];
 
-fn print_answer(rt: &HostRuntime, answer: Option<FileFault>) -> io::Result<()> {
-    match answer {
-        Some(e) => {
-            let fault = Fault::from(e);
+// A text, indented.
+fn print_text(rt: &HostRuntime, text: &str) -> io::Result<()> {
+    for line in text.lines() {
+        println!(rt; "    {line}")?;
+    }
+    Ok(())
+}
+
+// The fault of what was tried, or that it was accepted.
+fn print_answer(rt: &HostRuntime, fault: Option<Fault>) -> io::Result<()> {
+    match fault {
+        Some(fault) => {
             let cause = cause_of(fault);
             println!(rt; "        refused {fault}: {cause}")
         }
@@ -29,12 +40,22 @@ fn print_answer(rt: &HostRuntime, answer: Option<FileFault>) -> io::Result<()> {
     }
 }
 
-fn try_damages(rt: &HostRuntime, program: &mut Program) -> Result<(), Failure> {
-    println!(rt; "\nDamaged copies, loaded into the same program:")?;
+fn try_texts(rt: &HostRuntime, compiler: &mut Compiler, buffer: &mut [u8]) -> io::Result<()> {
+    println!(rt; "\nTexts that go wrong, compiled into the same buffer:")?;
+    for text in WRONG {
+        println!(rt; "    {text:?}")?;
+        let fault = compiler.compile(text.as_bytes(), buffer).err();
+        print_answer(rt, fault.map(Fault::from))?;
+    }
+    Ok(())
+}
+
+fn try_damages(rt: &HostRuntime, program: &mut Program, file: &[u8]) -> Result<(), Failure> {
+    println!(rt; "\nDamaged copies of the code file, loaded into the same program:")?;
     for (name, damage) in DAMAGES {
         println!(rt; "    {name}: {damage}")?;
-        let answer = try_damaged(rt.alloc(), program, FILE, damage)?;
-        print_answer(rt, answer)?;
+        let fault = try_damaged(rt.alloc(), program, file, damage)?;
+        print_answer(rt, fault.map(Fault::from))?;
     }
     println!(rt; "\nWhat the program holds after them:")?;
     print_loaded(rt, program)?;
@@ -42,12 +63,17 @@ fn try_damages(rt: &HostRuntime, program: &mut Program) -> Result<(), Failure> {
 }
 
 pub fn run(rt: &HostRuntime) -> Result<(), Failure> {
-    let size = FILE.len();
-    println!(rt; "The chart:\n{TEXT}")?;
-    println!(rt; "\nIts code file, {size} bytes, loaded into a program:")?;
+    println!(rt; "The chart:")?;
+    print_text(rt, TEXT)?;
+    let mut compiler = Compiler::new(rt.alloc())?;
     let mut program = Program::new(rt.alloc())?;
-    program.load(FILE)?;
+    let mut buffer = vec![in rt.alloc(); 0u8; LONGEST]?;
+    let length = compiler.build(TEXT.as_bytes(), &mut buffer, &mut program)?;
+    println!(rt; "\nCompiled to a code file:")?;
+    print_compiled(rt, length)?;
+    println!(rt; "\nThe code file, loaded into a program:")?;
     print_loaded(rt, &program)?;
     print_words(rt, &program)?;
-    try_damages(rt, &mut program)
+    try_texts(rt, &mut compiler, &mut buffer)?;
+    try_damages(rt, &mut program, &buffer[..length])
 }

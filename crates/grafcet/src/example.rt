@@ -1,24 +1,20 @@
-//! The two-step chart of docs/chart.md, and its code file as docs/code-file.md has it.
+//! The two-step chart of docs/chart.md, and texts that go wrong.
 
-pub const TEXT: &str = "    step 0 initial
-    step 1
-    trans 0 from 0 to 1 when /I0
-    trans 1 from 1 to 0 when I1
-    hold 1 Q0
-    enter 1 set Q1";
+pub const TEXT: &str = "step 0 initial
+step 1
+trans 0 from 0 to 1 when /I0
+trans 1 from 1 to 0 when I1
+hold 1 Q0
+enter 1 set Q1
+";
 
-// The mark, the four pairs, the initial steps; then the words of the three parts, three to a line.
-pub const FILE: &[u8; 136] = b"SRI1\
-    \x24\x00\x00\x00\x08\x00\x00\x00\
-    \x2c\x00\x00\x00\x48\x00\x00\x00\
-    \x74\x00\x00\x00\x0c\x00\x00\x00\
-    \x80\x00\x00\x00\x08\x00\x00\x00\
-    \x01\x00\x00\x00\x00\x00\x00\x00\
-    \x00\x00\x20\x01\x00\x00\x00\x07\x00\x00\x40\x01\
-    \x00\x00\x00\x09\x00\x00\x70\x0b\x00\x40\x20\x01\
-    \x00\x00\x00\x07\x00\x40\x10\x01\x00\x00\x00\x09\
-    \x00\x40\x70\x0b\x00\x00\x70\x01\x00\x00\x20\x0d\
-    \x00\x40\x70\x01\x00\x40\x20\x0d\x00\x00\x70\x01\
-    \x00\x40\x20\x0c\x00\x40\x70\x01\x00\x00\x20\x0c\
-    \x00\x40\x20\x01\x00\x40\x80\x04\x00\x40\x30\x0c\
-    \x00\x40\x20\x01\x00\x00\x90\x0c";
+/// Texts with a fault each.
+pub const WRONG: [&str; 7] = [
+    "",
+    "step 64",
+    "step 0 initial\nstop 1",
+    "step 0 initial\ntrans 0 from 0 to 0 when ((((((((1))))))))",
+    "step 0 initial\ntrans 0 from 0 when I1",
+    "step 0 initial\nstep 0",
+    "step 0 initial\nhold 1 Q0",
+];

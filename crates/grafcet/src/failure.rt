@@ -1,10 +1,10 @@
 //! Why a command fails.
 ghost use Rattle.std.specs.Prelude.{◌≡◌};
 ghost use Rattle.grafcet.specs.declared.failure.Failure.TheVariants.{Refused as IsRefused, Unwritable as IsUnwritable, OutOfMemory as IsOutOfMemory};
-ghost use Rattle.faults.specs.declared.Fault.TheVariants.{File as OfFile};
+ghost use Rattle.faults.specs.declared.Fault.TheVariants.{Code as OfCode};
 
 use crate::cause::cause_of;
-use faults::{Fault, FileFault};
+use faults::{CodeFault, Fault};
 use std::alloc::AllocError;
 use std::{fmt, io};
 
@@ -65,10 +65,10 @@ impl From<io::Error> for Failure {
     }
 }
 
-impl From<FileFault> for Failure {
-    ghost from_gives = { λ e r. r ≡ IsRefused (OfFile e) };
+impl From<CodeFault> for Failure {
+    ghost from_gives = { λ e r. r ≡ IsRefused (OfCode e) };
 
-    fn from(e: FileFault) -> Failure {
+    fn from(e: CodeFault) -> Failure {
         Failure::Refused(Fault::from(e))
     }
 }

@@ -2,7 +2,7 @@
 #![tactic(auto)]
 
 ghost use Rattle.std.specs.Prelude.{◌≡◌, map, string_bytes};
-ghost use Rattle.grafcet.specs.Commands.{Asks, AsksToCompile};
+ghost use Rattle.grafcet.specs.Commands.{Asks};
 
 mod cause;
 mod compiling;
@@ -24,6 +24,8 @@ use std::process::ExitCode;
 #[derive(Clone, Copy, PartialEq, Eq, Debug)]
 enum Command<'a> {
     Demo,
+    /// The chart in a file, and the file that its code goes to.
+    Compile { chart: &'a str, out: &'a str },
     Load(&'a str),
 }
 
@@ -34,28 +36,11 @@ fn command_of(args: &[String]) -> Option<Command<'_>>
 {
     match args {
         [] | [_] => Some(Command::Demo),
-        [_, word, path] if word.as_str() == "load" => Some(Command::Load(path.as_str())),
-        _ => None,
-    }
-}
-
-/// A chart to compile: its file, and that of its code.
-#[derive(Clone, Copy, PartialEq, Eq, Debug)]
-struct Compilation<'a> {
-    chart: &'a str,
-    out: &'a str,
-}
-
-// The command `compile`, which stands apart from those of `command_of`.
-#[tactic(auto, using(crate::proofs::Texts::texts))]
-fn compilation_of(args: &[String]) -> Option<Compilation<'_>>
-    ensures { AsksToCompile (map string_bytes args.now) result }
-{
-    match args {
-        [_, word, chart, out] if word.as_str() == "compile" => Some(Compilation {
+        [_, word, chart, out] if word.as_str() == "compile" => Some(Command::Compile {
             chart: chart.as_str(),
             out: out.as_str(),
         }),
+        [_, word, path] if word.as_str() == "load" => Some(Command::Load(path.as_str())),
         _ => None,
     }
 }
@@ -74,11 +59,9 @@ fn told(rt: &HostRuntime, subject: &str, res: Result<(), Failure>) -> Result<(),
 }
 
 fn perform(rt: &HostRuntime, args: &[String]) -> Result<(), Failure> {
-    if let Some(Compilation { chart, out }) = compilation_of(args) {
-        return told(rt, chart, compiling::run(rt, chart, out));
-    }
     match command_of(args) {
         Some(Command::Demo) => told(rt, "grafcet", demo::run(rt)),
+        Some(Command::Compile { chart, out }) => told(rt, chart, compiling::run(rt, chart, out)),
         Some(Command::Load(path)) => told(rt, path, load::run(rt, path)),
         None => told(rt, "usage", Err(Failure::Usage)),
     }
