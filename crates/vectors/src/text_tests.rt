@@ -225,3 +225,28 @@ fn buffers(rt: HostRuntime) -> Result<(), Fail> {
     assert_eq!(rt; longer[139], 7);
     Ok(())
 }
+
+#[test]
+fn of_the_last_tests_the_first(rt: HostRuntime) -> Result<(), Fail> {
+    let mut compiler = Compiler::new(rt.alloc())?;
+    let mut none = [0u8; 0];
+    // too many words, no room for them, and in the first text no initial step
+    let idle = "step 0\nhold 0 Q0\ntrans 0 from 0 to 0 when 1";
+    let text = repeated(rt.alloc(), idle, 1362, "+1")?;
+    let fault = CodeFault::Chart(ChartFault::NoInitialStep(text.len()));
+    assert_eq!(rt; compiler.compile(&text, &mut none), Err(fault));
+    let long = "step 0 initial\nhold 0 Q0\ntrans 0 from 0 to 0 when 1";
+    let text = repeated(rt.alloc(), long, 1362, "+1")?;
+    let fault = CodeFault::TooManyWords(text.len());
+    assert_eq!(rt; compiler.compile(&text, &mut none), Err(fault));
+    // the shortest file has 44 bytes
+    let fault = CodeFault::BufferTooShort(44);
+    assert_eq!(rt; compiler.compile(b"step 0 initial", &mut none), Err(fault));
+    let mut exact = [7u8; 44];
+    assert_eq!(rt; compiler.compile(b"step 0 initial", &mut exact), Ok(44));
+    // a text that is too long is not looked into
+    let text = repeated(rt.alloc(), "step 64", 32762, "?")?;
+    let fault = CodeFault::Chart(ChartFault::Text(TextFault::TooLong));
+    assert_eq!(rt; compiler.compile(&text, &mut none), Err(fault));
+    Ok(())
+}
