@@ -78,26 +78,7 @@ apart v w false h n = refl
 other_word : (w v : Word) (x : State) (at : ℕ) → (Keyword v ≡ Keyword w → ⊥) → only w x at v ≡ fault (Unexpected at)
 other_word w v x at n = ap (λ q. cond q (goes x) (fault (Unexpected at))) (apart w v (same w v) refl (λ e. n (ap (λ z. Keyword z) e)))
 
--- a step that is not initial
-unless_initial : (n : Number) (at : ℕ) (k : TokenKind) → (k ≡ Keyword Initial → ⊥) → step (initial n) at k ≡ step (end (line.step n false)) at k
-unless_initial n at (Keyword v) h = other_word Initial v (end (line.step n true)) at h
-unless_initial n at (Digits i) h = refl
-unless_initial n at (Operand l i) h = refl
-unless_initial n at Comma h = refl
-unless_initial n at Dot h = refl
-unless_initial n at Plus h = refl
-unless_initial n at Bang h = refl
-unless_initial n at Open h = refl
-unless_initial n at Close h = refl
-unless_initial n at Slash h = refl
-unless_initial n at Backslash h = refl
-unless_initial n at LineEnd h = refl
-
-pub not_initial : {from rest : Rest} {n : Number} → ReadsNumber from n rest → Lacks (Keyword Initial) rest.tokens.now → going stepping from ≡ going (end (line.step n false)) rest
-not_initial {rest = rest} {n} r l = r.passes (λ n. initial n) ∙ alike (Keyword Initial) (initial n) (end (line.step n false)) rest.end rest.tokens.now (λ at k h. unless_initial n at k h) refl l
-
 -- an output that is reset
-
 unless_set : (n : Number) (at : ℕ) (k : TokenKind) → (k ≡ Keyword Set → ⊥) → step (verb n) at k ≡ step (word Reset (output (λ q. end (line.enter n action.Reset q)))) at k
 unless_set n at (Keyword v) h = ap (λ q. cond q (goes (output (λ q. end (line.enter n action.Set q)))) (only Reset (output (λ q. end (line.enter n action.Reset q))) at v)) (apart Set v (same Set v) refl (λ e. h (ap (λ z. Keyword z) e)))
 unless_set n at (Digits i) h = refl
@@ -112,8 +93,8 @@ unless_set n at Slash h = refl
 unless_set n at Backslash h = refl
 unless_set n at LineEnd h = refl
 
-pub not_set : {from rest : Rest} {n : Number} → ReadsNumber from n rest → Lacks (Keyword Set) rest.tokens.now → going entering from ≡ going (word Reset (output (λ q. end (line.enter n action.Reset q)))) rest
-not_set {rest = rest} {n} r l = r.passes (λ n. verb n) ∙ alike (Keyword Set) (verb n) (word Reset (output (λ q. end (line.enter n action.Reset q)))) rest.end rest.tokens.now (λ at k h. unless_set n at k h) refl l
+pub not_set : (from : Rest) (n : Number) → Lacks (Keyword Set) from.tokens.now → going (verb n) from ≡ going (word Reset (output (λ q. end (line.enter n action.Reset q)))) from
+not_set from n l = alike (Keyword Set) (verb n) (word Reset (output (λ q. end (line.enter n action.Reset q)))) from.end from.tokens.now (λ at k h. unless_set n at k h) refl l
 
 -- the tokens before a rest
 pub used_part : (used rest toks : List Token) (m : ℕ) → toks ≡ used ++ rest → m ≡ length toks - length rest → take m toks ≡ used

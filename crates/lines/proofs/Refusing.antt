@@ -9,8 +9,8 @@ use Rattle.conditions.specs.Read.{placed}
 use Rattle.conditions.proofs.Complete.{Limit, too_deep, too_large}
 use Rattle.lines.specs.Grammar as line
 use Rattle.lines.specs.Grammar.{Tree, spell, Matches, FitsLine}
-use Rattle.lines.specs.Scan.{State, Move, scan, step, follow, goes, done, fault, reads, fails, start, refs}
-use Rattle.lines.specs.Laws.{Ends, Begins, Viable, Spells, Possible, Unfit, Why, Refused}
+use Rattle.lines.specs.Scan.{State, Move, scan, step, follow, goes, done, fault, reads, fails, start, refs, line_of}
+use Rattle.lines.specs.Laws.{Ends, Begins, Viable, Spells, Possible, Unfit, Why, Stuck}
 use Rattle.lines.proofs.Along.{Spelt, Within, Limits, Next, advance, viable}
 use Rattle.lines.proofs.Whole.{whole}
 use Rattle.lines.proofs.Wide.{outcome}
@@ -141,7 +141,7 @@ not_viable before x e t f g r v =
     let b = begins_renamed v.tree toks toks [] (inl (refl, refl)) m v.fits in
     stray (sym (whole toks [] e (renamed v.tree toks) b) ∙ fails_on before x e t v.more f g r)
 
-pub refused : Refused
+pub refused : (ts : List Token) (e : ℕ) (f : TextFault) → line_of ts e ≡ fails f → Stuck ts e f
 refused ts e f h =
     let x = walk ts start e [] f refl tt h in
     record {

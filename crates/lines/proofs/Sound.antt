@@ -7,10 +7,10 @@ use Rattle.text.specs.declared.token.TokenKind.TheVariants.{LineEnd}
 use Rattle.words.specs.Emitted.{Kept}
 use Rattle.lines.specs.declared.shape.Line.{Line}
 use Rattle.lines.specs.Grammar.{Tree, spell, Matches, FitsLine}
-use Rattle.lines.specs.Scan.{State, Move, scan, step, follow, goes, done, fault, reads, fails, start}
+use Rattle.lines.specs.Scan.{State, Move, scan, step, follow, goes, done, fault, reads, fails, start, line_of}
 use Rattle.conditions.specs.declared.rest.Rest.{Rest}
 use Rattle.lines.specs.Parts.{LineFrom, ReadsLine}
-use Rattle.lines.specs.Laws.{Uses, Ends, Sound}
+use Rattle.lines.specs.Laws.{Uses, Ends, Begins}
 use Rattle.lines.proofs.Along.{Spelt, Within, Next, advance}
 
 -- the line is spelled by u and what is used of toks
@@ -55,7 +55,7 @@ came : (toks : List Token) (x : State) (u rest : List Token) (e : ℕ) (l : Tree
 came [] x u rest e l g b r = out_came u rest e l (step x e LineEnd) (advance x u (record { kind = LineEnd; place = e }) g b) r
 came (t ∷ toks) x u rest e l g b r = token_came u t toks rest e l (step x t.place t.kind) (advance x u t g b) (λ y h c q. came toks y (u ++ t ∷ []) rest e l h c q) r
 
-pub sound : Sound
+pub sound : (ts rest : List Token) (e : ℕ) (l : Tree) → line_of ts e ≡ reads l rest → Begins l ts rest
 sound ts rest e l r = let c = came ts start [] rest e l refl tt r in record { used = c.used; ends = c.ends; spelled = c.spelled; uses = c.uses; fits = c.fits }
 
 -- a whole line

@@ -21,8 +21,8 @@ use Rattle.lines.specs.declared.shape.Action.TheVariants as action
 use Rattle.lines.specs.Grammar as line
 use Rattle.lines.specs.Grammar.{Tree, Numbers, one, more, Mark, kind, exactly, digits, spell_numbers, prefix, spell, Meets, Matches, Small, AllSmall, FitsLine}
 use Rattle.lines.specs.Scan as automaton
-use Rattle.lines.specs.Scan.{State, scan, step, follow, goes, fault, reads, fails, number, output, word, listed, initial, verb, guard, end, same, stepping, entering, transing, holding, start, noted, refs}
-use Rattle.lines.specs.Laws.{Uses, Whole, Only, Nowhere}
+use Rattle.lines.specs.Scan.{State, scan, step, follow, goes, fault, reads, fails, number, output, word, listed, initial, verb, guard, end, same, stepping, entering, transing, holding, start, noted, refs, line_of}
+use Rattle.lines.specs.Laws.{Uses, Begins, Only, Nowhere}
 use Rattle.lines.proofs.Reading.{on, guard_reads, refs_append, used_part}
 
 -- the scan of u and then rest goes from x to y, over the first marks
@@ -269,7 +269,7 @@ tail_reads (line.enter n action.Reset o) e u tail rest q f m d =
     (go_kind (Keyword Reset) (verb n) O e w tail (exactly (line.output o) ∷ []) m2 (λ at. refl))
     (λ z m3. go_output o (λ q. end (line.enter n action.Reset q)) e z tail [] f.1 m3))))
 
-pub whole : Whole
+pub whole : (ts rest : List Token) (e : ℕ) (l : Tree) → Begins l ts rest → line_of ts e ≡ reads l rest
 whole ts rest e l b =
     ⊎_elim
     (λ h. ap (λ l. scan l start e) (h.0 ∙ sym (append-nil b.used)) ∙ tail_reads l e b.used [] rest (no_tail rest h.1) b.fits b.spelled b.uses)

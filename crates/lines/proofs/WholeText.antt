@@ -9,7 +9,7 @@ use Rattle.lines.specs.Scan.{State, Move, Scan, scan, step, follow, start, goes,
 use Rattle.conditions.specs.declared.rest.Rest.{Rest}
 use Rattle.lines.specs.Next.{lines_left}
 use Rattle.lines.specs.Text.{read_lines, between, inside, onward, ended, put, before}
-use Rattle.lines.specs.Laws.{Begins, LinesUpTo, here, line, Spelled, StuckText, TextsSound, TextsWhole, TextsRefused}
+use Rattle.lines.specs.Laws.{Begins, LinesUpTo, here, line, Spelled, StuckText}
 use Rattle.lines.proofs.Whole.{whole}
 use Rattle.lines.proofs.Sound.{sound, ends_shorter}
 use Rattle.lines.proofs.Refusing.{refused}
@@ -101,7 +101,7 @@ pub lines_read : {ts left : List Token} {ls : List Tree} (e : ℕ) → LinesUpTo
 lines_read {ts} e here = before_none (read_lines ts between e)
 lines_read {left = left} e (line {t} {ts} {rest} {l = l} {ls} b s) = first_line (t ∷ ts) rest e l (omega arith) (whole (t ∷ ts) rest e l b) ∙ ap (λ z. put l z) (lines_read e s) ∙ before_lines l ls (read_lines left between e)
 
-pub texts_whole : TextsWhole
+pub texts_whole : (ts : List Token) (e : ℕ) (ls : List Tree) → Spelled ts ls → read_lines ts between e ≡ Ok ls
 texts_whole ts e ls s = lines_read e s ∙ ap (λ z. Ok z) (append-nil ls)
 
 sound_behind : (t : Token) (ts rest : List Token) (l : Tree) (ls : List Tree) (r : Lines) → Begins l (t ∷ ts) rest → ((ms : List Tree) → r ≡ Ok ms → Spelled rest ms) → put l r ≡ Ok ls → Spelled (t ∷ ts) ls
@@ -120,7 +120,7 @@ sound_within bound [] e ls n h = let z : [] ≡ ls = cc in subst (λ l. Spelled 
 sound_within [] (t ∷ ts) e ls n h = absurd (omega arith)
 sound_within (u ∷ bound) (t ∷ ts) e ls n h = sound_at t ts e ls (scan (t ∷ ts) start e) refl (λ rest ms m q. sound_within bound rest e ms (omega arith) q) h
 
-pub texts_sound : TextsSound
+pub texts_sound : (ts : List Token) (e : ℕ) (ls : List Tree) → read_lines ts between e ≡ Ok ls → Spelled ts ls
 texts_sound ts e ls h = sound_within ts ts e ls (omega arith) h
 
 -- where a text is stuck
@@ -141,7 +141,7 @@ stuck_within bound [] e f n h = refusing (sym h)
 stuck_within [] (t ∷ ts) e f n h = absurd (omega arith)
 stuck_within (u ∷ bound) (t ∷ ts) e f n h = stuck_at t ts e f (scan (t ∷ ts) start e) refl (λ rest m q. stuck_within bound rest e f (omega arith) q) h
 
-pub texts_refused : TextsRefused
+pub texts_refused : (ts : List Token) (e : ℕ) (f : TextFault) → read_lines ts between e ≡ Err f → StuckText ts e f
 texts_refused ts e f h = stuck_within ts ts e f (omega arith) h
 
 -- what holds of each list of lines that fit holds of the lines of a text

@@ -1,13 +1,12 @@
 -- What the scan of a line means in words of the tree. Assumes nothing.
-use Rattle.std.specs.Prelude.{◌≡◌, ℕ, ◌+◌, ◌<◌, ◌≤◌, ◌⊎◌, List, [], ◌∷◌, ◌++◌, length, Ok, Err}
+use Rattle.std.specs.Prelude.{◌≡◌, ℕ, ◌+◌, ◌<◌, ◌≤◌, ◌⊎◌, List, [], ◌∷◌, ◌++◌, length}
 use Rattle.faults.specs.declared.TextFault.{TextFault}
 use Rattle.faults.specs.declared.TextFault.TheVariants.{TooLong, NoToken, TooManyDigits, Unexpected, EighthBracket, NumberTooLarge}
 use Rattle.text.specs.declared.token.Token.{Token}
 use Rattle.text.specs.declared.token.Letter.{Letter}
 use Rattle.text.specs.declared.token.TokenKind.TheVariants.{Digits, Operand, Open, LineEnd}
 use Rattle.lines.specs.Grammar.{Tree, empty, step, trans, hold, enter, spell, Matches, FitsLine}
-use Rattle.lines.specs.Scan.{line_of, reads, fails, refs}
-use Rattle.lines.specs.Text.{read_lines, between}
+use Rattle.lines.specs.Scan.{refs}
 use Rattle.faults.specs.Numbers.{text_place}
 use Rattle.conditions.specs.Read.{kinds, placed}
 use Rattle.conditions.specs.Laws.{opened, closed}
@@ -31,13 +30,6 @@ pub record Begins (l : Tree) (ts rest : List Token) : Type 0 where
   pub spelled : Matches used (spell l)
   pub uses : Uses l used
   pub fits : FitsLine l
-
--- the scan's line is one that the tokens begin with, and they begin with no other
-abbrev pub Sound : Type 0
-Sound = (ts rest : List Token) (e : ℕ) (l : Tree) → line_of ts e ≡ reads l rest → Begins l ts rest
-
-abbrev pub Whole : Type 0
-Whole = (ts rest : List Token) (e : ℕ) (l : Tree) → Begins l ts rest → line_of ts e ≡ reads l rest
 
 -- a line that the tokens begin with is the one that leaves rest
 abbrev pub Only : List Token → List Token → Type 0
@@ -107,9 +99,6 @@ pub record Stuck (ts : List Token) (e : ℕ) (f : TextFault) : Type 0 where
   pub stuck : (t : Token) (us : List Token) → rest ≡ t ∷ us → Viable (before ++ t ∷ []) → ⊥
   pub why : Why before rest f
 
-abbrev pub Refused : Type 0
-Refused = (ts : List Token) (e : ℕ) (f : TextFault) → line_of ts e ≡ fails f → Stuck ts e f
-
 -- the tokens begin with these lines, one behind the other, and rest is what they leave
 pub data LinesUpTo : List Token → List Tree → List Token → Type 0 where
   here : {ts : List Token} → LinesUpTo ts [] ts
@@ -119,13 +108,6 @@ pub data LinesUpTo : List Token → List Tree → List Token → Type 0 where
 abbrev pub Spelled : List Token → List Tree → Type 0
 Spelled ts ls = LinesUpTo ts ls []
 
--- the lines of a text are those that it is spelled as, and it is spelled as no others
-abbrev pub TextsSound : Type 0
-TextsSound = (ts : List Token) (e : ℕ) (ls : List Tree) → read_lines ts between e ≡ Ok ls → Spelled ts ls
-
-abbrev pub TextsWhole : Type 0
-TextsWhole = (ts : List Token) (e : ℕ) (ls : List Tree) → Spelled ts ls → read_lines ts between e ≡ Ok ls
-
 -- some lines are spelled, and the next one is stuck
 pub record StuckText (ts : List Token) (e : ℕ) (f : TextFault) : Type 0 where
   pub lines : List Tree
@@ -133,6 +115,3 @@ pub record StuckText (ts : List Token) (e : ℕ) (f : TextFault) : Type 0 where
   pub read : LinesUpTo ts lines rest
   pub more : 0 < length rest
   pub stuck : Stuck rest e f
-
-abbrev pub TextsRefused : Type 0
-TextsRefused = (ts : List Token) (e : ℕ) (f : TextFault) → read_lines ts between e ≡ Err f → StuckText ts e f

@@ -1,5 +1,5 @@
 -- What a reader of a line's part answers. Assumes nothing.
-use Rattle.std.specs.Prelude.{◌≡◌, ℕ, ◌<◌, List, [], ◌∷◌, ◌++◌, length}
+use Rattle.std.specs.Prelude.{◌≡◌, ℕ, ◌<◌, Bool, List, [], ◌∷◌, ◌++◌, length}
 use Rattle.text.specs.declared.token.Word.{Word}
 use Rattle.faults.specs.declared.TextFault.{TextFault}
 use Rattle.text.specs.declared.token.Token.{Token}
@@ -10,11 +10,12 @@ use Rattle.conditions.specs.declared.rest.Rest.{Rest}
 use Rattle.conditions.specs.Readers.{Behind}
 use Rattle.conditions.specs.Tree.{Cond}
 use Rattle.lines.specs.declared.shape.Number.{Number}
+use Rattle.lines.specs.declared.shape.Action.{Action}
 use Rattle.lines.specs.declared.shape.Line.{Line}
 use Rattle.lines.specs.declared.shape.Line.TheVariants.{Empty, Step, Trans, Hold, Enter}
 use Rattle.lines.specs.Grammar as line
 use Rattle.lines.specs.Grammar.{Tree, Numbers, one, items, digits, Small, FitsLine}
-use Rattle.lines.specs.Scan.{State, Scan, scan, reads, fails, number, output, word, listed, end, up_to63, refs}
+use Rattle.lines.specs.Scan.{State, Scan, scan, reads, fails, number, output, word, listed, initial, verb, end, up_to63, refs}
 use Rattle.lines.specs.Guards.{guard_words}
 use Rattle.lines.specs.Laws.{Begins}
 
@@ -65,6 +66,18 @@ pub record ReadsWord (w : Word) (from rest : Rest) : Type 0 where
 
 pub record NoWord (w : Word) (from : Rest) (f : TextFault) : Type 0 where
   pub fails : (x : State) → going (word w x) from ≡ fails f
+
+-- the step of the line is initial, or is not
+pub record SaysInitial (from : Rest) (b : Bool) (rest : Rest) : Type 0 where
+  pub passes : (n : Number) → going (initial n) from ≡ going (end (line.step n b)) rest
+  pub same_end : rest.end ≡ from.end
+
+pub record ReadsVerb (from : Rest) (a : Action) (rest : Rest) : Type 0 where
+  pub passes : (n : Number) → going (verb n) from ≡ going (output (λ q. end (line.enter n a q))) rest
+  pub same_end : rest.end ≡ from.end
+
+pub record NoVerb (from : Rest) (f : TextFault) : Type 0 where
+  pub fails : (n : Number) → going (verb n) from ≡ fails f
 
 pub record ReadsEnd (from rest : Rest) : Type 0 where
   pub passes : (l : Tree) → going (end l) from ≡ reads l rest.tokens.now

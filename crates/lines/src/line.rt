@@ -6,8 +6,8 @@ ghost use Rattle.lines.specs.Laws.{Only, Nowhere, Stuck};
 ghost use Rattle.lines.specs.Parts.{ReadsLine, LineFrom, QuietFrom, NoLineFrom};
 ghost use Rattle.lines.specs.Next.{NextLine};
 
-use crate::parts::{finish, list, number, output, word};
-use crate::shape::{Action, Line, Transition};
+use crate::parts::{finish, initial, list, number, output, verb, word};
+use crate::shape::{Line, Transition};
 use crate::steps::test_steps;
 use conditions::condition::read_condition;
 use conditions::rest::Rest;
@@ -16,19 +16,22 @@ use text::token::{TokenKind, Word};
 use words::instruction::Instruction;
 use words::list::WordList;
 
-/// The line that the tokens begin with, and what is left behind its end. The words that test a transition go to `guards`.
+/// The line that the tokens begin with, and what is left behind its end. The words that test a transition go to `guards`;
+/// refused, which of them are there is open.
 pub fn read_line<'a>(
     input: Rest<'a>,
     guards: &mut WordList,
 ) -> Result<(Line<'a>, Rest<'a>), TextFault>
-    ensures reads { MatchResult result (λ p. ReadsLine start input.entry p.0 p.1 (kept_in guards.old) (kept_in guards.new)) (λ f. scan input.entry.tokens.now start input.entry.end ≡ fails f) }
+    ensures reads { MatchResult result
+        (λ p. ReadsLine start input.entry p.0 p.1 (kept_in guards.old) (kept_in guards.new))
+        (λ f. scan input.entry.tokens.now start input.entry.end ≡ fails f) }
     ensures only_tree { MatchResult result (λ p. Only input.entry.tokens.now p.1.tokens.now) (λ f. Nowhere input.entry.tokens.now) }
     ensures refused { IfErr result (λ f. Stuck input.entry.tokens.now input.entry.end f) }
 {
     read(input, guards)
 }
 
-/// The next line of a text and what is left behind it, or None where no token is left.
+/// The next line of a text and what is left behind it, or None where no token is left. Of `guards`, see `read_line`.
 pub fn next_line<'a>(
     input: Rest<'a>,
     guards: &mut WordList,
@@ -63,16 +66,9 @@ fn step<'a>(input: Rest<'a>) -> Result<(Line<'a>, Rest<'a>), TextFault>
     ensures { MatchResult result (λ p. QuietFrom stepping input.entry p.0 p.1) (λ f. NoLineFrom stepping input.entry f) }
 {
     let (n, rest) = number(input)?;
-    match rest.behind(TokenKind::Keyword(Word::Initial)) {
-        Some(after) => {
-            let left = finish(after)?;
-            Ok((Line::Step(n, true), left))
-        }
-        None => {
-            let left = finish(rest)?;
-            Ok((Line::Step(n, false), left))
-        }
-    }
+    let (initial, after) = initial(rest);
+    let left = finish(after)?;
+    Ok((Line::Step(n, initial), left))
 }
 
 fn hold<'a>(input: Rest<'a>) -> Result<(Line<'a>, Rest<'a>), TextFault>
@@ -88,19 +84,10 @@ fn enter<'a>(input: Rest<'a>) -> Result<(Line<'a>, Rest<'a>), TextFault>
     ensures { MatchResult result (λ p. QuietFrom entering input.entry p.0 p.1) (λ f. NoLineFrom entering input.entry f) }
 {
     let (n, rest) = number(input)?;
-    match rest.behind(TokenKind::Keyword(Word::Set)) {
-        Some(after) => {
-            let (q, behind_q) = output(after)?;
-            let left = finish(behind_q)?;
-            Ok((Line::Enter(n, Action::Set, q), left))
-        }
-        None => {
-            let after = word(rest, Word::Reset)?;
-            let (q, behind_q) = output(after)?;
-            let left = finish(behind_q)?;
-            Ok((Line::Enter(n, Action::Reset, q), left))
-        }
-    }
+    let (action, after) = verb(rest)?;
+    let (q, behind_q) = output(after)?;
+    let left = finish(behind_q)?;
+    Ok((Line::Enter(n, action, q), left))
 }
 
 fn trans<'a>(input: Rest<'a>, guards: &mut WordList) -> Result<(Line<'a>, Rest<'a>), TextFault>

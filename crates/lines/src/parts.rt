@@ -1,9 +1,9 @@
 //! What a line is made of: numbers, outputs, words and lists. Each reader takes what is left of the tokens, and answers what
 //! is left behind what it reads.
 ghost use Rattle.std.specs.Prelude.{MatchResult};
-ghost use Rattle.lines.specs.Parts.{ReadsNumber, NoNumber, ReadsOutput, NoOutput, ReadsWord, NoWord, ReadsEnd, NoEnd, ReadsList, NoList};
+ghost use Rattle.lines.specs.Parts.{ReadsNumber, NoNumber, ReadsOutput, NoOutput, ReadsWord, NoWord, SaysInitial, ReadsVerb, NoVerb, ReadsEnd, NoEnd, ReadsList, NoList};
 
-use crate::shape::Number;
+use crate::shape::{Action, Number};
 use conditions::rest::{Rest, small};
 use faults::TextFault;
 use text::token::{Letter, Token, TokenKind, Word};
@@ -35,6 +35,26 @@ pub(crate) fn word<'a>(input: Rest<'a>, word: Word) -> Result<Rest<'a>, TextFaul
 {
     let other = TextFault::Unexpected(input.place());
     input.behind(TokenKind::Keyword(word)).ok_or(other)
+}
+
+/// Whether `initial` comes next, and what is left behind it.
+pub(crate) fn initial<'a>(input: Rest<'a>) -> (bool, Rest<'a>)
+    ensures { SaysInitial input.entry result.0 result.1 }
+{
+    match input.behind(TokenKind::Keyword(Word::Initial)) {
+        Some(after) => (true, after),
+        None => (false, input),
+    }
+}
+
+/// `set` or `reset`.
+pub(crate) fn verb<'a>(input: Rest<'a>) -> Result<(Action, Rest<'a>), TextFault>
+    ensures { MatchResult result (λ p. ReadsVerb input.entry p.0 p.1) (λ f. NoVerb input.entry f) }
+{
+    match input.behind(TokenKind::Keyword(Word::Set)) {
+        Some(after) => Ok((Action::Set, after)),
+        None => Ok((Action::Reset, word(input, Word::Reset)?)),
+    }
 }
 
 /// The end of the line.

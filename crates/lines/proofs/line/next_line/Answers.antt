@@ -8,7 +8,7 @@ pub returns-in_err-line : goal.returns-in_err-line
 returns-in_err-line c =
     let p = err_from_is_err_and c.from_residual.result c.from_residual.ensures.1 in
     let some : 0 < length c.args.input.tokens.now = search rules in
-    rw (p.1, p.2) (first_fails _ _ _ some c.in_err-line.ensures.reads)
+    rw (p.1, p.2) (first_fails _ _ _ some c.in_err-line.ensures.reads, c.in_err-line.ensures.refused)
 
 pub returns : goal.returns
 returns c =
@@ -17,9 +17,9 @@ returns c =
     let rest = c.in_ok-line.rest in
     record {
       tree = line.tree;
+      begins = line.begins;
       first = first_line _ _ _ _ some line.is ∙ ap (λ e. put line.tree (read_lines rest.tokens.now between e)) (sym line.same_end);
       shown = line.shown;
-      fits = line.fits;
       emitted = line.emitted;
       shorter = line.shorter some;
       same_end = line.same_end;
