@@ -23,8 +23,8 @@ fn declare(declared: &mut NumberSet, line: Line) -> bool
     ensures { (tree : Tree) (lines : List Tree) → Shows line.entry tree → Knows declared.old (all steps_of lines) → (result ≡ is_initial tree) × Knows declared.new (all steps_of (lines ++ tree ∷ [])) }
 {
     match line {
-        Line::Step(n, initial) => {
-            declared.add(n.value);
+        Line::Step { step, initial } => {
+            declared.add(step.value);
             initial
         }
         _ => false,

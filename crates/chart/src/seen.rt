@@ -69,18 +69,21 @@ impl Seen {
     {
         match line {
             Line::Empty => {}
-            Line::Step(n, _) => {
-                findings.note_if(self.steps.add(n.value), ChartFault::DeclaredTwice(n.place));
-            }
-            Line::Trans(t) => self.note_transition(findings, t),
-            Line::Hold(n, q) => {
-                findings.note_use(n);
+            Line::Step { step, .. } => {
                 findings.note_if(
-                    self.held.mark(n.value, q.value),
-                    ChartFault::HeldTwice(q.place),
+                    self.steps.add(step.value),
+                    ChartFault::DeclaredTwice(step.place),
                 );
             }
-            Line::Enter(n, _, _) => findings.note_use(n),
+            Line::Trans(t) => self.note_transition(findings, t),
+            Line::Hold { step, output } => {
+                findings.note_use(step);
+                findings.note_if(
+                    self.held.mark(step.value, output.value),
+                    ChartFault::HeldTwice(output.place),
+                );
+            }
+            Line::Enter { step, .. } => findings.note_use(step),
         }
     }
 }

@@ -158,18 +158,12 @@ unless_comma ns w next at LineEnd h = refl
 comma_less : (ns : Numbers) (w : Word) (next : Numbers → State) (rest : Rest) → Lacks Comma rest.tokens.now → going (listed ns w next) rest ≡ going (word w (next ns)) rest
 comma_less ns w next rest l = alike Comma (listed ns w next) (word w (next ns)) rest.end rest.tokens.now (λ at k h. unless_comma ns w next at k h) refl l
 
-list_split : {w : Word} {from rest left : Rest} (s : ListSoFar w from rest) (r : ReadsWord w rest left) → from.tokens.now ≡ (s.part ++ r.behind.heads.0 ∷ []) ++ left.tokens.now
-list_split {left = left} s r = s.split ∙ ap (λ l. s.part ++ l) r.behind.heads.2 ∙ sym (append_assoc s.part (r.behind.heads.0 ∷ []) left.tokens.now)
-
-pub list_ended : {w : Word} {m : ℕ} {from rest left : Rest} {part : List Token} → ListSoFar w from rest → Lacks Comma rest.tokens.now → ReadsWord w rest left → m ≡ length from.tokens.now - length left.tokens.now → part ≡ take m from.tokens.now → ReadsList w from part left
+pub list_ended : {w : Word} {m : ℕ} {from rest left : Rest} {part : List Token} → ListSoFar w from rest → Lacks Comma rest.tokens.now → ReadsWord w rest left → m ≡ length from.tokens.now - length rest.tokens.now → part ≡ take m from.tokens.now → ReadsList w from part left
 list_ended {w} {m} {from} {rest} {left} {part} s l r em ep =
-    let t = r.behind.heads.0 in
-    let used = s.part ++ t ∷ [] in
-    let is : part ≡ used = ep ∙ used_part used left.tokens.now from.tokens.now m (list_split s r) em in
+    let is : part ≡ s.part = ep ∙ used_part s.part rest.tokens.now from.tokens.now m s.split em in
     record {
       tree = s.tree;
-      split = list_split s r ∙ ap (λ l. l ++ left.tokens.now) (sym is);
-      numbers = ap numbers_in is ∙ numbers_append s.part (t ∷ []) ∙ ap (λ k. numbers_in s.part ++ (counted t.place k ++ [])) r.behind.heads.1 ∙ append-nil (numbers_in s.part) ∙ s.numbers;
+      numbers = ap numbers_in is ∙ s.numbers;
       passes = λ k. s.passes k ∙ comma_less s.tree w k rest l ∙ r.passes (k s.tree);
       same_end = r.behind.same_end ∙ s.same_end;
     }

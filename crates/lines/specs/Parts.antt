@@ -86,10 +86,9 @@ pub record ReadsEnd (from rest : Rest) : Type 0 where
 pub record NoEnd (from : Rest) (f : TextFault) : Type 0 where
   pub fails : (l : Tree) → going (end l) from ≡ fails f
 
--- a list and the word that ends it: its tokens are `part`
+-- a list, whose tokens are `part`, and the word that ends it
 pub record ReadsList (w : Word) (from : Rest) (part : List Token) (rest : Rest) : Type 0 where
   pub tree : Numbers
-  pub split : from.tokens.now ≡ part ++ rest.tokens.now
   pub numbers : numbers_in part ≡ items tree
   pub passes : (k : Numbers → State) → going (number (λ n. listed (one n) w k)) from ≡ going (k tree) rest
   pub same_end : rest.end ≡ from.end

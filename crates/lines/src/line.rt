@@ -65,29 +65,36 @@ fn read<'a>(input: Rest<'a>, guards: &mut WordList) -> Result<(Line<'a>, Rest<'a
 fn step<'a>(input: Rest<'a>) -> Result<(Line<'a>, Rest<'a>), TextFault>
     ensures { MatchResult result (λ p. QuietFrom stepping input.entry p.0 p.1) (λ f. NoLineFrom stepping input.entry f) }
 {
-    let (n, rest) = number(input)?;
+    let (step, rest) = number(input)?;
     let (initial, after) = initial(rest);
     let left = finish(after)?;
-    Ok((Line::Step(n, initial), left))
+    Ok((Line::Step { step, initial }, left))
 }
 
 fn hold<'a>(input: Rest<'a>) -> Result<(Line<'a>, Rest<'a>), TextFault>
     ensures { MatchResult result (λ p. QuietFrom holding input.entry p.0 p.1) (λ f. NoLineFrom holding input.entry f) }
 {
-    let (n, rest) = number(input)?;
-    let (q, after) = output(rest)?;
+    let (step, rest) = number(input)?;
+    let (output, after) = output(rest)?;
     let left = finish(after)?;
-    Ok((Line::Hold(n, q), left))
+    Ok((Line::Hold { step, output }, left))
 }
 
 fn enter<'a>(input: Rest<'a>) -> Result<(Line<'a>, Rest<'a>), TextFault>
     ensures { MatchResult result (λ p. QuietFrom entering input.entry p.0 p.1) (λ f. NoLineFrom entering input.entry f) }
 {
-    let (n, rest) = number(input)?;
+    let (step, rest) = number(input)?;
     let (action, after) = verb(rest)?;
-    let (q, behind_q) = output(after)?;
-    let left = finish(behind_q)?;
-    Ok((Line::Enter(n, action, q), left))
+    let (output, behind_output) = output(after)?;
+    let left = finish(behind_output)?;
+    Ok((
+        Line::Enter {
+            step,
+            action,
+            output,
+        },
+        left,
+    ))
 }
 
 fn trans<'a>(input: Rest<'a>, guards: &mut WordList) -> Result<(Line<'a>, Rest<'a>), TextFault>

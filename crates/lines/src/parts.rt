@@ -68,7 +68,7 @@ pub(crate) fn finish<'a>(input: Rest<'a>) -> Result<Rest<'a>, TextFault>
     }
 }
 
-/// Numbers with `,` between them, up to the word: their tokens and the word, and those behind.
+/// Numbers with `,` between them, and the word that ends them: the tokens of the list, and what is left behind the word.
 pub(crate) fn list<'a>(input: Rest<'a>, until: Word) -> Result<(&'a [Token], Rest<'a>), TextFault>
     ensures { MatchResult result (λ p. ReadsList until input.entry p.0.now p.1) (λ f. NoList until input.entry f) }
 {
@@ -77,9 +77,6 @@ pub(crate) fn list<'a>(input: Rest<'a>, until: Word) -> Result<(&'a [Token], Res
         let (_, left) = number(after)?;
         rest = left;
     }
-    let left = word(rest, until)?;
-    Ok((
-        &input.tokens[..input.tokens.len() - left.tokens.len()],
-        left,
-    ))
+    let part = &input.tokens[..input.tokens.len() - rest.tokens.len()];
+    Ok((part, word(rest, until)?))
 }

@@ -9,8 +9,8 @@ pub struct Number {
     pub place: usize,
 }
 
-/// A transition: the tokens of its preceding and its succeeding steps, each with the word that ends the list, and those of
-/// its condition.
+/// A transition: the tokens of its preceding and of its succeeding steps, which are numbers with `,` between them, and those
+/// of its condition.
 #[derive(Clone, Copy, PartialEq, Eq, Debug)]
 pub struct Transition<'a> {
     pub number: Number,
@@ -29,12 +29,21 @@ pub enum Action {
 #[derive(Clone, Copy, PartialEq, Eq, Debug)]
 pub enum Line<'a> {
     Empty,
-    /// A step, and whether it is initial.
-    // A bool, as in the tree that the definitions have: initial or not is all there is to say.
-    Step(Number, bool),
+    /// A step, which is initial or not.
+    Step {
+        step: Number,
+        initial: bool,
+    },
     Trans(Transition<'a>),
-    /// A step, and the output that it holds.
-    Hold(Number, Number),
-    /// A step, and what it does to an output when it becomes active.
-    Enter(Number, Action, Number),
+    /// A step holds an output.
+    Hold {
+        step: Number,
+        output: Number,
+    },
+    /// A step sets or resets an output when it becomes active.
+    Enter {
+        step: Number,
+        action: Action,
+        output: Number,
+    },
 }

@@ -67,17 +67,21 @@ impl Draft {
     {
         match line {
             Line::Empty => {}
-            Line::Step(step, initial) => {
+            Line::Step { step, initial } => {
                 self.initial = starting(self.initial, step, initial);
             }
             Line::Trans(t) => {
                 emit_switches(Action::Reset, t.number.value, t.from, &mut self.resets);
                 emit_switches(Action::Set, t.number.value, t.to, &mut self.sets);
             }
-            Line::Hold(step, output) => {
+            Line::Hold { step, output } => {
                 emit_all(&holding(step.value, output.value), &mut self.hold);
             }
-            Line::Enter(step, action, output) => {
+            Line::Enter {
+                step,
+                action,
+                output,
+            } => {
                 emit_all(&entering(step.value, action, output.value), &mut self.enter);
             }
         }

@@ -9,10 +9,10 @@ loop-after-init c = list_started c.in_ok-rest.ensures
 pub loop-after-preserved : goal.loop-after-preserved
 loop-after-preserved c = list_more c.loop-after.invariant c.in-Some.ensures c.in_ok-left.ensures
 
-pub returns-in_err-left-2 : goal.returns-in_err-left-2
-returns-in_err-left-2 c =
-    let p = err_from_is_err_and c.from_residual-in_err-left-2.result c.from_residual-in_err-left-2.ensures.1 in
-    rw (p.1, p.2) (list_wordless c.loop-after.invariant c.in_default.ensures c.in_err-left-2.ensures)
+pub returns-in_err-word : goal.returns-in_err-word
+returns-in_err-word c =
+    let p = err_from_is_err_and c.from_residual-in_err-word.result c.from_residual-in_err-word.ensures.1 in
+    rw (p.1, p.2) (list_wordless c.loop-after.invariant c.in_default.ensures c.in_err-word.ensures)
 
 pub returns : goal.returns
-returns c = list_ended c.loop-after.invariant c.in_default.ensures c.in_ok-left-2.ensures (omega arith) refl
+returns c = list_ended c.loop-after.invariant c.in_default.ensures c.in_ok-word.ensures (omega arith) refl

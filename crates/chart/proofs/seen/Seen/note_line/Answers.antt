@@ -11,8 +11,8 @@ returns-in-Trans c = λ tree before shown mem. c.note_transition.ensures tree be
 pub returns-in-Hold : goal.returns-in-Hold
 returns-in-Hold c = λ tree before shown mem.
     let f = c.args.findings.now in
-    let n = c.in-Hold.n in
-    let q = c.in-Hold.q in
+    let n = c.in-Hold.step in
+    let q = c.in-Hold.output in
     let hs = all holdings_of before in
     let is = holding_noted hs n q c.mark.result f c.note_use.new.self c.note_if-in-Hold.new.self (c.mark.ensures.was_marked ∙ mem.held (holding n q)) c.note_use.ensures c.note_if-in-Hold.ensures in
     rw (subst (λ l. Shows l tree) c.in-Hold.is shown) (record {
