@@ -40,7 +40,6 @@ impl Findings<'_> {
     }
 
     /// Notes the fault if it is one.
-    // The flag is what a set has just answered; it says nothing of whether a value is there.
     pub(crate) fn note_if(&mut self, is_fault: bool, fault: ChartFault)
         ensures { self.new ≡ noting self.old (if is_fault then fault ∷ [] else []) }
     {
@@ -62,7 +61,8 @@ impl Findings<'_> {
     /// 8: notes the steps that are named by tokens and are not declared.
     pub(crate) fn note_uses<F: Fn(Token) -> Option<Number>>(&mut self, tokens: &[Token], named: F)
         requires { F.IsAlwaysCallable named }
-        ensures { (numbers : TheToken → List TheNumber) → Named (F.post named) numbers → self.new ≡ noting self.old (uses_by self.old.declared.now (flat_map numbers tokens.now)) }
+        ensures { (numbers : TheToken → List TheNumber) → Named (F.post named) numbers →
+            self.new ≡ noting self.old (uses_by self.old.declared.now (flat_map numbers tokens.now)) }
     {
         for t in tokens {
             if let Some(n) = named(*t) {
@@ -85,7 +85,8 @@ impl Findings<'_> {
 
     // 9: notes a number that stands in the list already, and counts it as listed.
     fn note_listing(&mut self, listed: &mut NumberSet, n: Number)
-        ensures faults { (ns : List TheNumber) → Knows listed.old ns → self.new ≡ noting self.old (listings ns (n ∷ [])) }
+        ensures faults { (ns : List TheNumber) → Knows listed.old ns →
+            self.new ≡ noting self.old (listings ns (n ∷ [])) }
         ensures counts { (ns : List TheNumber) → Knows listed.old ns → Knows listed.new (n ∷ ns) }
     {
         self.note_if(listed.add(n.value), ChartFault::ListedTwice(n.place));

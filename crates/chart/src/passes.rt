@@ -20,7 +20,8 @@ use words::list::WordList;
 
 // Counts the step of a line as declared, and says whether it is initial.
 fn declare(declared: &mut NumberSet, line: Line) -> bool
-    ensures { (tree : Tree) (lines : List Tree) → Shows line.entry tree → Knows declared.old (all steps_of lines) → (result ≡ is_initial tree) × Knows declared.new (all steps_of (lines ++ tree ∷ [])) }
+    ensures { (tree : Tree) (lines : List Tree) → Shows line.entry tree → Knows declared.old (all steps_of lines) →
+        (result ≡ is_initial tree) × Knows declared.new (all steps_of (lines ++ tree ∷ [])) }
 {
     match line {
         Line::Step { step, initial } => {
@@ -37,7 +38,9 @@ pub(crate) fn find_declared(
     text: Rest<'_>,
     words: &mut WordList,
 ) -> Result<bool, TextFault>
-    ensures { MatchResult result (λ initial. Declared (lines_left text.entry) initial declared.new) (λ f. lines_left text.entry ≡ Refused f) }
+    ensures { MatchResult result
+        (λ initial. Declared (lines_left text.entry) initial declared.new)
+        (λ f. lines_left text.entry ≡ Refused f) }
 {
     declared.clear();
     let mut any_initial = false;
@@ -56,7 +59,8 @@ pub(crate) fn find_fault(
     text: Rest<'_>,
     words: &mut WordList,
 ) -> Result<Option<ChartFault>, TextFault>
-    ensures { (ns : List TheNumber) → Knows declared.now ns → result ≡ on_lines (λ ls. first_of (chart_faults ns [] ls)) (lines_left text.entry) }
+    ensures { (ns : List TheNumber) → Knows declared.now ns →
+        result ≡ on_lines (λ ls. first_of (chart_faults ns [] ls)) (lines_left text.entry) }
 {
     seen.clear();
     let mut findings = Findings {

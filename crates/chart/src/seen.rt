@@ -49,7 +49,8 @@ impl Seen {
     }
 
     fn note_transition(&mut self, findings: &mut Findings, t: Transition)
-        ensures { (tree : Tree) (before : List Tree) → Shows (OfTransition t.entry) tree → Remembers self.old before → NotesLine before tree findings.old findings.new self.new }
+        ensures { (tree : Tree) (before : List Tree) → Shows (OfTransition t.entry) tree → Remembers self.old before →
+            NotesLine before tree findings.old findings.new self.new }
     {
         let n = t.number;
         findings.note_if(
@@ -65,7 +66,8 @@ impl Seen {
 
     /// Notes the faults 7 to 10 of a line, and remembers it.
     pub(crate) fn note_line(&mut self, findings: &mut Findings, line: Line)
-        ensures { (tree : Tree) (before : List Tree) → Shows line.entry tree → Remembers self.old before → NotesLine before tree findings.old findings.new self.new }
+        ensures { (tree : Tree) (before : List Tree) → Shows line.entry tree → Remembers self.old before →
+            NotesLine before tree findings.old findings.new self.new }
     {
         match line {
             Line::Empty => {}

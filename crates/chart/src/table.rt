@@ -57,7 +57,8 @@ impl HeldTable {
     /// Marks that the step holds the output, and says whether it was marked.
     pub(crate) fn mark(&mut self, step: u8, output: u8) -> bool
         ensures was_marked { result ≡ marked self.old.rows.items step output }
-        ensures marks { (s q : ℕ) → marked self.new.rows.items s q ≡ ((s == step && q == output) || marked self.old.rows.items s q) }
+        ensures marks { (s q : ℕ) →
+            marked self.new.rows.items s q ≡ ((s == step && q == output) || marked self.old.rows.items s q) }
     {
         self.rows[usize::from(step)].mark(output)
     }

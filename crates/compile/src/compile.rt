@@ -11,7 +11,6 @@ use faults::CodeFault;
 impl Compiler {
     /// Writes the code file of a chart text at the beginning of the buffer, answers its length and leaves the buffer's
     /// rest; or names the first fault and leaves all of the buffer.
-    // The buffer is the caller's and a length stands beside it: no memory is asked for in a call.
     pub fn compile(&mut self, text: &[u8], buffer: &mut [u8]) -> Result<usize, CodeFault>
         ensures answer { result ≡ answer_of (compiled text.now (length buffer.old)) }
         ensures buffer { buffer.new ≡ buffer_with (compiled text.now (length buffer.old)) buffer.old }

@@ -13,7 +13,7 @@ use text::tokens::Tokens;
 use translation::draft::Draft;
 use words::list::WordList;
 
-/// Compiles chart texts. All its room is reserved when it is made.
+/// Compiles chart texts. All its room is reserved when it is made; what a text leaves in it does not matter to the next.
 #[derive(Drop)]
 pub struct Compiler {
     tokens: Tokens,
@@ -62,10 +62,10 @@ impl Compiler {
         ensures { Charted (chart_of_text text.now) self.new.draft result }
     {
         self.read(text)?;
-        let text = Rest {
+        let rest = Rest {
             tokens: self.tokens.list(),
             end: text.len(),
         };
-        self.checker.check(text, &mut self.scratch)
+        self.checker.check(rest, &mut self.scratch)
     }
 }

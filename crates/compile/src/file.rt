@@ -24,7 +24,8 @@ fn code_fault(end: usize, fault: WriteFault) -> CodeFault
 // Writes the code file of the draft of a text that ends at `end`.
 pub(crate) fn write_draft(draft: &Draft, end: usize, buffer: &mut [u8]) -> Result<usize, CodeFault>
     ensures file { (lines : List Tree) → Drafted lines draft.now → Files lines end buffer.old buffer.new result }
-    ensures loads_back { (lines : List Tree) → Drafted lines draft.now → AllFit lines → IfOk result (λ n. code_of (take n buffer.new) ≡ Right (program_of lines)) }
+    ensures loads_back { (lines : List Tree) → Drafted lines draft.now → AllFit lines →
+        IfOk result (λ n. code_of (take n buffer.new) ≡ Right (program_of lines)) }
 {
     let contents = draft.contents().ok_or(CodeFault::TooManyWords(end))?;
     write(contents, buffer).map_err(|fault| code_fault(end, fault))

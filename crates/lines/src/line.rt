@@ -25,7 +25,9 @@ pub fn read_line<'a>(
     ensures reads { MatchResult result
         (λ p. ReadsLine start input.entry p.0 p.1 (kept_in guards.old) (kept_in guards.new))
         (λ f. scan input.entry.tokens.now start input.entry.end ≡ fails f) }
-    ensures only_tree { MatchResult result (λ p. Only input.entry.tokens.now p.1.tokens.now) (λ f. Nowhere input.entry.tokens.now) }
+    ensures only_tree { MatchResult result
+        (λ p. Only input.entry.tokens.now p.1.tokens.now)
+        (λ f. Nowhere input.entry.tokens.now) }
     ensures refused { IfErr result (λ f. Stuck input.entry.tokens.now input.entry.end f) }
 {
     read(input, guards)
@@ -46,7 +48,9 @@ pub fn next_line<'a>(
 }
 
 fn read<'a>(input: Rest<'a>, guards: &mut WordList) -> Result<(Line<'a>, Rest<'a>), TextFault>
-    ensures { MatchResult result (λ p. LineFrom start input.entry p.0 p.1 (kept_in guards.old) (kept_in guards.new)) (λ f. NoLineFrom start input.entry f) }
+    ensures { MatchResult result
+        (λ p. LineFrom start input.entry p.0 p.1 (kept_in guards.old) (kept_in guards.new))
+        (λ f. NoLineFrom start input.entry f) }
 {
     if input.tokens.is_empty() {
         return Ok((Line::Empty, input));
@@ -63,7 +67,9 @@ fn read<'a>(input: Rest<'a>, guards: &mut WordList) -> Result<(Line<'a>, Rest<'a
 }
 
 fn step<'a>(input: Rest<'a>) -> Result<(Line<'a>, Rest<'a>), TextFault>
-    ensures { MatchResult result (λ p. QuietFrom stepping input.entry p.0 p.1) (λ f. NoLineFrom stepping input.entry f) }
+    ensures { MatchResult result
+        (λ p. QuietFrom stepping input.entry p.0 p.1)
+        (λ f. NoLineFrom stepping input.entry f) }
 {
     let (step, rest) = number(input)?;
     let (initial, after) = initial(rest);
@@ -81,7 +87,9 @@ fn hold<'a>(input: Rest<'a>) -> Result<(Line<'a>, Rest<'a>), TextFault>
 }
 
 fn enter<'a>(input: Rest<'a>) -> Result<(Line<'a>, Rest<'a>), TextFault>
-    ensures { MatchResult result (λ p. QuietFrom entering input.entry p.0 p.1) (λ f. NoLineFrom entering input.entry f) }
+    ensures { MatchResult result
+        (λ p. QuietFrom entering input.entry p.0 p.1)
+        (λ f. NoLineFrom entering input.entry f) }
 {
     let (step, rest) = number(input)?;
     let (action, after) = verb(rest)?;
@@ -98,7 +106,9 @@ fn enter<'a>(input: Rest<'a>) -> Result<(Line<'a>, Rest<'a>), TextFault>
 }
 
 fn trans<'a>(input: Rest<'a>, guards: &mut WordList) -> Result<(Line<'a>, Rest<'a>), TextFault>
-    ensures { MatchResult result (λ p. LineFrom transing input.entry p.0 p.1 (kept_in guards.old) (kept_in guards.new)) (λ f. NoLineFrom transing input.entry f) }
+    ensures { MatchResult result
+        (λ p. LineFrom transing input.entry p.0 p.1 (kept_in guards.old) (kept_in guards.new))
+        (λ f. NoLineFrom transing input.entry f) }
 {
     let (number, behind_number) = number(input)?;
     let first = word(behind_number, Word::From)?;

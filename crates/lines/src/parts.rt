@@ -1,7 +1,8 @@
-//! What a line is made of: numbers, outputs, words and lists. Each reader takes what is left of the tokens, and answers what
-//! is left behind what it reads.
+//! What a line is made of: numbers, outputs, words and lists. Each reader takes what is left of the tokens, and answers
+//! what is left behind what it reads.
 ghost use Rattle.std.specs.Prelude.{MatchResult};
-ghost use Rattle.lines.specs.Parts.{ReadsNumber, NoNumber, ReadsOutput, NoOutput, ReadsWord, NoWord, SaysInitial, ReadsVerb, NoVerb, ReadsEnd, NoEnd, ReadsList, NoList};
+ghost use Rattle.lines.specs.Parts.{ReadsNumber, ReadsOutput, ReadsWord, SaysInitial, ReadsVerb, ReadsEnd, ReadsList};
+ghost use Rattle.lines.specs.Parts.{NoNumber, NoOutput, NoWord, NoVerb, NoEnd, NoList};
 
 use crate::shape::{Action, Number};
 use conditions::rest::{Rest, small};

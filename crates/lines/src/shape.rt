@@ -1,8 +1,7 @@
 //! What a line is read as. Its lists and its condition are parts of the tokens.
 use text::token::Token;
 
-/// A number up to 63, with the place of its token. The readers promise the bound; it is no invariant, since the definitions
-/// name the numbers of any tokens.
+/// A number with the place of its token. The readers promise that it is at most 63.
 #[derive(Clone, Copy, PartialEq, Eq, Debug)]
 pub struct Number {
     pub value: u8,

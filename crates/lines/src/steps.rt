@@ -22,7 +22,6 @@ pub fn number_of(token: Token) -> Option<Number>
 }
 
 /// The step that a token of a condition names.
-// It differs from `number_of` in a pattern, which no parameter can stand for; what both share is `up_to_63`.
 pub fn step_named(token: Token) -> Option<Number>
     ensures { MatchOption result (noted token.place token.kind ≡ []) (λ n. noted token.place token.kind ≡ n ∷ []) }
 {
