@@ -110,8 +110,8 @@ pub record Stuck (ts : List Token) (e : ℕ) (f : TextFault) : Type 0 where
   pub stuck : (t : Token) (us : List Token) → rest ≡ t ∷ us → Viable (kinds before ++ t.kind ∷ []) → ⊥
   pub why : Why before rest f
 
--- what the reader of a whole condition answers: the scan's condition, what is left behind it, and its words behind those
--- that were there
+-- what the reader of a whole condition answers: the scan's condition, what is left behind it, and its words behind
+-- those of before
 pub record Wholly (from : Rest) (before : Kept) (rest : Rest) (after : Kept) : Type 0 where
   pub tree : Cond
   pub is : condition_of from.tokens.now from.end ≡ stops tree rest.tokens.now
