@@ -15,7 +15,7 @@ use Rattle.conditions.specs.Scan.{condition_of, scan, State, step, signs, begins
 use Rattle.conditions.specs.Tree as tree
 use Rattle.conditions.specs.Tree.{Cond, Term, Factor, Primary, spell, spell_atom, spell_term, spell_factor, spell_primary, SmallAtom, Fits, FitsTerm, FitsFactor, FitsPrimary}
 use Rattle.conditions.specs.Read.{kinds, Heads, Lacks}
-use Rattle.conditions.specs.Laws.{Whole, Only, Nowhere}
+use Rattle.conditions.specs.Laws.{Begins, Only, Nowhere}
 use Rattle.conditions.proofs.Steps.{on, ahead, no_bang}
 
 ending : (s : Terms) (t : Term) (p : ℕ) (k : TokenKind) → (k ≡ Dot → ⊥) → (k ≡ Plus → ⊥) → signs none s t p k ≡ ends (join s t)
@@ -201,7 +201,8 @@ same_end [] (w ∷ ws) ts us e l = absurd (omega (arith, ap length e, length-app
 same_end (v ∷ vs) [] ts us e l = absurd (omega (arith, ap length e, length-append vs ts))
 same_end (v ∷ vs) (w ∷ ws) ts us e l = let r : vs ++ ts ≡ ws ++ us = cc in same_end vs ws ts us r l
 
-pub whole : Whole
+-- a condition that the tokens begin with is the scan's
+pub whole : (ts rest : List Token) (e : ℕ) (c : Cond) → Begins c ts rest → condition_of ts e ≡ stops c rest
 whole ts rest e c b =
     let spelt = ap kinds b.split ∙ map-append (λ t. t.kind) b.used rest ∙ ap (λ l. l ++ kinds rest) b.spelled in
     let g = goes_cond c e ts (kinds rest) spelt b.fits in

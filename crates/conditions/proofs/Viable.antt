@@ -12,11 +12,11 @@ use Rattle.text.specs.declared.token.TokenKind.{TokenKind}
 use Rattle.text.specs.declared.token.TokenKind.TheVariants.{Keyword, Digits, Operand, Comma, Dot, Plus, Bang, Open, Close, Slash, Backslash, LineEnd}
 use Rattle.conditions.specs.declared.tree.Atom.TheVariants.{Plain, Rise, Fall, Always}
 use Rattle.conditions.specs.Scan as automaton
-use Rattle.conditions.specs.Scan.{scan, State, Step, step, out, follow, begins, negates, inputs, signs, other, goes, ends, fault, stops, fails, start, wants, primary, edge, sign, Terms, no_terms, terms, Factors, no_factors, factors, join, extend, signed, edged, Brackets, none, inside, deep, read}
+use Rattle.conditions.specs.Scan.{condition_of, scan, State, Step, step, out, follow, begins, negates, inputs, signs, other, goes, ends, fault, stops, fails, start, wants, primary, edge, sign, Terms, no_terms, terms, Factors, no_factors, factors, join, extend, signed, edged, Brackets, none, inside, deep, read}
 use Rattle.conditions.specs.Tree as tree
 use Rattle.conditions.specs.Tree.{Cond, Term, Factor, Primary, spell, spell_term, spell_factor, spell_primary, Fits, FitsTerm, FitsFactor, FitsPrimary}
 use Rattle.conditions.specs.Read.{kinds, placed, Lacks}
-use Rattle.conditions.specs.Laws.{opened, closed, Sound, Viable, Spells, Possible, Unfit, Eighth, Large, Why, Refused}
+use Rattle.conditions.specs.Laws.{opened, closed, Begins, Viable, Spells, Possible, Unfit, Eighth, Large, Why, Stuck}
 use Rattle.conditions.proofs.Counts.{excess, even, even_term}
 use Rattle.conditions.proofs.Complete.{Limit, too_deep, too_large, others, last, goes_cond, wide_cond}
 
@@ -342,7 +342,8 @@ came : (ts rest : List Token) (x : State) (e : ℕ) (c : Cond) → FitsState x �
 came [] rest x e c f r = out_came x e rest c f r
 came (t ∷ ts) rest x e c f r = token_came (spelled x) t ts rest e c (step x t.place t.kind) (advance x t.place t.kind f) (λ y g q. came ts rest y e c g q) r
 
-pub sound : Sound
+-- the scan's condition is one that the tokens begin with
+pub sound : (ts rest : List Token) (e : ℕ) (c : Cond) → condition_of ts e ≡ stops c rest → Begins c ts rest
 sound ts rest e c r = let x = came ts rest start e c (tt, tt, tt) r in record { used = x.used; split = x.split; spelled = x.spelt; fits = x.fits; undotted = x.undotted; unadded = x.unadded }
 
 -- what refuses: the first token that is left, or that there is none
@@ -497,7 +498,8 @@ why_of before (t ∷ us) x e f g r =
     by_cause before t us f (subst (λ l. Limits f l t.kind) g.spelt (at_fault t x f g.fits r).1)
     (λ q is. (not_whole before x e g (unended x t.place e t.kind f r), not_onward before x e q t g (r ∙ ap (λ f. fault f) is)))
 
-pub refused : Refused
+-- a fault of the scan stands where no condition goes on
+pub refused : (ts : List Token) (e : ℕ) (f : TextFault) → condition_of ts e ≡ fails f → Stuck ts e f
 refused ts e f h =
     let x = walk ts start e f (tt, tt, tt) h in
     let g : Reached x.before x.state e = record { fits = x.fits; spelt = x.spelt; onward = x.onward } in

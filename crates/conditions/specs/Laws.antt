@@ -10,7 +10,7 @@ use Rattle.text.specs.declared.token.TokenKind.TheVariants.{Keyword, Digits, Ope
 use Rattle.words.specs.Emitted.{Kept, pushed}
 use Rattle.conditions.specs.declared.rest.Rest.{Rest}
 use Rattle.conditions.specs.Read.{kinds, Lacks, placed}
-use Rattle.conditions.specs.Scan.{condition_of, stops, fails}
+use Rattle.conditions.specs.Scan.{condition_of, stops}
 use Rattle.conditions.specs.Tree.{Cond, spell, words, Fits}
 
 -- the tokens begin with the whole condition c, which fits, and rest is what it leaves
@@ -21,13 +21,6 @@ pub record Begins (c : Cond) (ts rest : List Token) : Type 0 where
   pub fits : Fits 0 c
   pub undotted : Lacks Dot rest
   pub unadded : Lacks Plus rest
-
--- the scan's condition is one that the tokens begin with, and they begin with no other
-abbrev pub Sound : Type 0
-Sound = (ts rest : List Token) (e : ℕ) (c : Cond) → condition_of ts e ≡ stops c rest → Begins c ts rest
-
-abbrev pub Whole : Type 0
-Whole = (ts rest : List Token) (e : ℕ) (c : Cond) → Begins c ts rest → condition_of ts e ≡ stops c rest
 
 -- these kinds can be gone on with to a condition that fits
 pub record Viable (ks : List TokenKind) : Type 0 where
@@ -117,11 +110,8 @@ pub record Stuck (ts : List Token) (e : ℕ) (f : TextFault) : Type 0 where
   pub stuck : (t : Token) (us : List Token) → rest ≡ t ∷ us → Viable (kinds before ++ t.kind ∷ []) → ⊥
   pub why : Why before rest f
 
-abbrev pub Refused : Type 0
-Refused = (ts : List Token) (e : ℕ) (f : TextFault) → condition_of ts e ≡ fails f → Stuck ts e f
-
--- what the reader of a whole condition answers: the scan's condition, what is left behind it, and its words behind those
--- that were there
+-- what the reader of a whole condition answers: the scan's condition, what is left behind it, and its words behind
+-- those of before
 pub record Wholly (from : Rest) (before : Kept) (rest : Rest) (after : Kept) : Type 0 where
   pub tree : Cond
   pub is : condition_of from.tokens.now from.end ≡ stops tree rest.tokens.now

@@ -6,6 +6,7 @@ use Rattle.text.specs.declared.token.Letter.{Letter}
 use Rattle.text.specs.declared.token.Token.{Token}
 use Rattle.text.specs.declared.token.TokenKind.{TokenKind}
 use Rattle.text.specs.declared.token.TokenKind.TheVariants.{Dot, Plus, Operand}
+use Rattle.words.specs.declared.instruction.Instruction.{Instruction}
 use Rattle.words.specs.Emitted.{Kept, pushed}
 use Rattle.conditions.specs.declared.rest.Rest.{Rest}
 use Rattle.conditions.specs.declared.tree.Atom.{Atom}
@@ -84,21 +85,32 @@ pub record NoTerm (d : ℕ) (from : Rest) (f : TextFault) : Type 0 where
 pub record NoCond (d : ℕ) (from : Rest) (f : TextFault) : Type 0 where
   pub fails : (h : Brackets) → deep h ≡ d → going (wants h no_terms no_factors) from ≡ fails f
 
--- the scan goes on to rest with the part read, wherever it comes to it, and the part's words stand behind those of before
+-- a refusal leaves the words of before, and some words behind them
+pub record Grown (before after : Kept) : Type 0 where
+  pub more : List Instruction
+  pub emitted : after ≡ pushed before more
+
+-- the scan goes on to rest with the part read, wherever it comes to it; the part's words stand behind those of before
 pub record ReadsAtom (from : Rest) (a : Atom) (rest : Rest) : Type 0 where
-  pub passes : (h : Brackets) (s : Terms) (p : Factors) (b : Bool) → going (primary h s p b) from ≡ going (read h s p b (tree.atom a)) rest
+  pub passes :
+      (h : Brackets) (s : Terms) (p : Factors) (b : Bool) →
+      going (primary h s p b) from ≡ going (read h s p b (tree.atom a)) rest
   pub later : Later from rest
 
 pub record ReadsPrimary (b : Bool) (d : ℕ) (from : Rest) (before : Kept) (rest : Rest) (after : Kept) : Type 0 where
   pub tree : Primary
   pub emitted : after ≡ pushed before (words_primary b tree)
-  pub passes : (h : Brackets) (s : Terms) (p : Factors) → deep h ≡ d → going (primary h s p b) from ≡ going (read h s p b tree) rest
+  pub passes :
+      (h : Brackets) (s : Terms) (p : Factors) → deep h ≡ d →
+      going (primary h s p b) from ≡ going (read h s p b tree) rest
   pub later : Later from rest
 
 pub record ReadsFactor (d : ℕ) (from : Rest) (before : Kept) (rest : Rest) (after : Kept) : Type 0 where
   pub tree : Factor
   pub emitted : after ≡ pushed before (words_factor tree)
-  pub passes : (h : Brackets) (s : Terms) (p : Factors) → deep h ≡ d → going (wants h s p) from ≡ going (sign h s (extend p tree)) rest
+  pub passes :
+      (h : Brackets) (s : Terms) (p : Factors) → deep h ≡ d →
+      going (wants h s p) from ≡ going (sign h s (extend p tree)) rest
   pub later : Later from rest
 
 pub record ReadsTerm (d : ℕ) (from : Rest) (before : Kept) (rest : Rest) (after : Kept) : Type 0 where

@@ -1,6 +1,5 @@
-//! The readers of a condition. Each takes what is left of the tokens, puts the words of what it reads behind `out`, and
-//! answers what is then left. Each rule of the grammar has a reader of its own, and they call each other: condition and
-//! term stay two functions for that reason (docs/DECISIONS.md, Forms).
+//! The readers of a condition, one for each rule of the grammar. Each takes what is left of the tokens, puts the words
+//! of what it reads behind those in `out`, and answers what is then left.
 ghost use Rattle.std.specs.Prelude.{◌≡◌, IfErr, MatchResult};
 ghost use Rattle.text.specs.declared.token.TokenKind.TheVariants.{Open};
 ghost use Rattle.words.specs.Emitted.{kept_in};
@@ -8,7 +7,8 @@ ghost use Rattle.conditions.specs.Tree.{loaded};
 ghost use Rattle.conditions.specs.Scan.{condition_of, fails};
 ghost use Rattle.conditions.specs.Laws.{Wholly, Only, Nowhere, Stuck};
 ghost use Rattle.conditions.specs.Read.{Lacks};
-ghost use Rattle.conditions.specs.Readers.{ReadsAtom, ReadsPrimary, ReadsFactor, ReadsTerm, ReadsCondition, NoAtom, NoPrimary, NoFactor, NoTerm, NoCond};
+ghost use Rattle.conditions.specs.Readers.{ReadsAtom, ReadsPrimary, ReadsFactor, ReadsTerm, ReadsCondition};
+ghost use Rattle.conditions.specs.Readers.{NoAtom, NoPrimary, NoFactor, NoTerm, NoCond, Grown};
 
 use crate::depth::Depth;
 use crate::rest::{Rest, small};
@@ -37,19 +37,28 @@ fn loading(negated: bool, atom: Atom) -> Instruction
     }
 }
 
-/// Reads the condition that the tokens begin with.
+/// Reads the condition that the tokens begin with, and puts its words behind those in `out`. Refused, `out` has the
+/// words that it had before, and some words behind them; which, is open.
 pub fn read_condition<'a>(input: Rest<'a>, out: &mut WordList) -> Result<Rest<'a>, TextFault>
-    ensures reads { MatchResult result (λ rest. Wholly input.entry (kept_in out.old) rest (kept_in out.new)) (λ f. condition_of input.entry.tokens.now input.entry.end ≡ fails f) }
-    ensures only_tree { MatchResult result (λ rest. Only input.entry.tokens.now rest.tokens.now) (λ f. Nowhere input.entry.tokens.now) }
+    ensures reads { MatchResult result
+        (λ rest. Wholly input.entry (kept_in out.old) rest (kept_in out.new))
+        (λ f. condition_of input.entry.tokens.now input.entry.end ≡ fails f) }
+    ensures only_tree { MatchResult result
+        (λ rest. Only input.entry.tokens.now rest.tokens.now)
+        (λ f. Nowhere input.entry.tokens.now) }
     ensures refused { IfErr result (λ f. Stuck input.entry.tokens.now input.entry.end f) }
+    ensures leaves { IfErr result (λ f. Grown (kept_in out.old) (kept_in out.new)) }
 {
     condition(input, Depth::outside(), out)
 }
 
 #[cycle(condition_factor_primary_term)]
-#[tactic(auto, using(crate::proofs::Steps::or_more))]
+#[tactic(auto, using(crate::proofs::Steps::or_more, crate::proofs::Pushing::grown_on))]
 fn condition<'a>(input: Rest<'a>, depth: Depth, out: &mut WordList) -> Result<Rest<'a>, TextFault>
-    ensures { MatchResult result (λ rest. ReadsCondition depth.brackets input.entry (kept_in out.old) rest (kept_in out.new)) (λ f. NoCond depth.brackets input.entry f) }
+    ensures reads { MatchResult result
+        (λ rest. ReadsCondition depth.brackets input.entry (kept_in out.old) rest (kept_in out.new))
+        (λ f. NoCond depth.brackets input.entry f) }
+    ensures leaves { IfErr result (λ f. Grown (kept_in out.old) (kept_in out.new)) }
 {
     let mut rest = term(input, depth, out)?;
     while let Some(after) = rest.behind(TokenKind::Plus) {
@@ -61,9 +70,12 @@ fn condition<'a>(input: Rest<'a>, depth: Depth, out: &mut WordList) -> Result<Re
 }
 
 #[cycle(condition_factor_primary_term)]
-#[tactic(auto, using(crate::proofs::Steps::term_started, crate::proofs::Steps::and_more))]
+#[tactic(auto, using(crate::proofs::Steps::term_started, crate::proofs::Steps::and_more, crate::proofs::Pushing::grown_on))]
 fn term<'a>(input: Rest<'a>, depth: Depth, out: &mut WordList) -> Result<Rest<'a>, TextFault>
-    ensures { MatchResult result (λ rest. ReadsTerm depth.brackets input.entry (kept_in out.old) rest (kept_in out.new)) (λ f. NoTerm depth.brackets input.entry f) }
+    ensures reads { MatchResult result
+        (λ rest. ReadsTerm depth.brackets input.entry (kept_in out.old) rest (kept_in out.new))
+        (λ f. NoTerm depth.brackets input.entry f) }
+    ensures leaves { IfErr result (λ f. Grown (kept_in out.old) (kept_in out.new)) }
 {
     let mut rest = factor(input, depth, out)?;
     while let Some(after) = rest.behind(TokenKind::Dot) {
@@ -76,7 +88,10 @@ fn term<'a>(input: Rest<'a>, depth: Depth, out: &mut WordList) -> Result<Rest<'a
 
 #[cycle(condition_factor_primary_term)]
 fn factor<'a>(input: Rest<'a>, depth: Depth, out: &mut WordList) -> Result<Rest<'a>, TextFault>
-    ensures { MatchResult result (λ rest. ReadsFactor depth.brackets input.entry (kept_in out.old) rest (kept_in out.new)) (λ f. NoFactor depth.brackets input.entry f) }
+    ensures reads { MatchResult result
+        (λ rest. ReadsFactor depth.brackets input.entry (kept_in out.old) rest (kept_in out.new))
+        (λ f. NoFactor depth.brackets input.entry f) }
+    ensures leaves { IfErr result (λ f. Grown (kept_in out.old) (kept_in out.new)) }
 {
     match input.behind(TokenKind::Bang) {
         Some(after) => primary(after, true, depth, out),
@@ -85,13 +100,17 @@ fn factor<'a>(input: Rest<'a>, depth: Depth, out: &mut WordList) -> Result<Rest<
 }
 
 #[cycle(condition_factor_primary_term)]
+#[tactic(auto, using(crate::proofs::Pushing::grown_none))]
 fn primary<'a>(
     input: Rest<'a>,
     negated: bool,
     depth: Depth,
     out: &mut WordList,
 ) -> Result<Rest<'a>, TextFault>
-    ensures { MatchResult result (λ rest. ReadsPrimary negated depth.brackets input.entry (kept_in out.old) rest (kept_in out.new)) (λ f. NoPrimary negated depth.brackets input.entry f) }
+    ensures reads { MatchResult result
+        (λ rest. ReadsPrimary negated depth.brackets input.entry (kept_in out.old) rest (kept_in out.new))
+        (λ f. NoPrimary negated depth.brackets input.entry f) }
+    ensures leaves { IfErr result (λ f. Grown (kept_in out.old) (kept_in out.new)) }
 {
     let Some(after) = input.behind(TokenKind::Open) else {
         let (atom, rest) = operand(input)?;

@@ -21,7 +21,9 @@ impl Depth {
 
     /// Inside one more bracket, which begins at `place`.
     pub(crate) fn deeper(self, place: usize) -> Result<Depth, TextFault>
-        ensures { MatchResult result (λ d. d.brackets ≡ self.brackets + 1) (λ f. (f ≡ EighthBracket place) × (7 ≤ self.brackets)) }
+        ensures { MatchResult result
+            (λ d. d.brackets ≡ self.brackets + 1)
+            (λ f. (f ≡ EighthBracket place) × (7 ≤ self.brackets)) }
     {
         if self.brackets >= 7 {
             return Err(TextFault::EighthBracket(place));

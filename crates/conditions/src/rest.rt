@@ -37,7 +37,9 @@ impl<'a> Rest<'a> {
 
     /// What stands behind the sign, if the next token is one.
     pub fn behind(self, sign: TokenKind) -> Option<Rest<'a>>
-        ensures { MatchOption result (Lacks sign self.entry.tokens.now) (λ rest. Behind sign self.entry rest) }
+        ensures { MatchOption result
+            (Lacks sign self.entry.tokens.now)
+            (λ rest. Behind sign self.entry rest) }
     {
         let (first, tokens) = self.tokens.split_first()?;
         if first.kind == sign {
@@ -50,7 +52,9 @@ impl<'a> Rest<'a> {
 
     /// The number of an operand with this letter, and what is left behind it.
     pub fn operand(self, letter: Letter) -> Result<(u8, Rest<'a>), TextFault>
-        ensures { MatchResult result (λ p. TakesOperand letter self.entry p.0 p.1) (λ f. LacksOperand letter self.entry f) }
+        ensures { MatchResult result
+            (λ p. TakesOperand letter self.entry p.0 p.1)
+            (λ f. LacksOperand letter self.entry f) }
     {
         let (first, rest) = self.next()?;
         match first.kind {
@@ -62,7 +66,9 @@ impl<'a> Rest<'a> {
 
 /// A number up to 63.
 pub fn small(n: u16, place: usize) -> Result<u8, TextFault>
-    ensures { MatchResult result (λ m. (m ≡ n) × (n ≤ 63)) (λ f. (f ≡ NumberTooLarge place) × (64 ≤ n)) }
+    ensures { MatchResult result
+        (λ m. (m ≡ n) × (n ≤ 63))
+        (λ f. (f ≡ NumberTooLarge place) × (64 ≤ n)) }
 {
     if n > 63 {
         return Err(TextFault::NumberTooLarge(place));

@@ -10,7 +10,7 @@ use Rattle.text.specs.declared.token.Letter.TheVariants.{I, Q, X}
 use Rattle.text.specs.declared.token.TokenKind.{TokenKind}
 use Rattle.text.specs.declared.token.TokenKind.TheVariants.{Keyword, Digits, Operand, Comma, Dot, Plus, Bang, Open, Close, Slash, Backslash, LineEnd}
 use Rattle.text.specs.declared.token.Word.{Word}
-use Rattle.text.specs.Lex.{Piece, letter_of, sign_of, value_of, few, number, operand, as_word, keyword, capital, signed, piece}
+use Rattle.text.specs.Lex.{Lexeme, Piece, letter_of, sign_of, value_of, few, number, operand, as_word, keyword, capital, signed, lexeme, as_piece, piece}
 use Rattle.text.specs.Runs.{digits, letters, worth}
 use Rattle.text.specs.Spelled.{Numeral, byte_of, Written, Ends, Begins, TooMany}
 use Rattle.text.specs.Spelling.{word_of}
@@ -28,6 +28,10 @@ Told p bs (Err (Unexpected q)) = ⊥
 Told p bs (Err (EighthBracket q)) = ⊥
 Told p bs (Err (NumberTooLarge q)) = ⊥
 
+-- what a token at place p says of them
+abbrev Says : ℕ → List ℕ → Lexeme → Type 0
+Says p bs l = Told p bs (as_piece l)
+
 -- the digits that the bytes begin with
 numeral : (bs : List ℕ) (s : Split is_ascii_digit bs) → 0 < digits bs → digits bs ≤ 4 → Numeral (value_of (digits bs) bs) s.run
 numeral bs s some few = record {
@@ -37,45 +41,45 @@ numeral bs s some few = record {
   value = ap worth (taken is_ascii_digit bs s);
 }
 
-number_told : (p : ℕ) (bs : List ℕ) → 0 < digits bs → Told p bs (number p bs)
+number_told : (p : ℕ) (bs : List ℕ) → 0 < digits bs → Says p bs (number p bs)
 number_told p bs some =
     let s = split is_ascii_digit bs in
-    cond_both (leb (digits bs) 4) (Ok (Some (Digits (value_of (digits bs) bs), digits bs))) (Err (TooManyDigits p)) (Told p bs)
+    cond_both (leb (digits bs) 4) (Ok (Digits (value_of (digits bs) bs), digits bs)) (Err (TooManyDigits p)) (Says p bs)
     (λ e. (record { token = s.run; rest = s.rest; cut = s.cut; written = numeral bs s some (leb-true (digits bs) 4 e); ends = s.stops }, s.long))
     (λ e. (refl, inl (leb-false (digits bs) 4 e)))
 
-operand_told : (l : Letter) (p : ℕ) (bs : List ℕ) → Told p (byte_of l ∷ bs) (operand l p bs)
+operand_told : (l : Letter) (p : ℕ) (bs : List ℕ) → Says p (byte_of l ∷ bs) (operand l p bs)
 operand_told l p bs =
     let s = split is_ascii_digit bs in
-    let P : Piece → Type 0 = Told p (byte_of l ∷ bs) in
+    let P : Lexeme → Type 0 = Says p (byte_of l ∷ bs) in
     cond_both (eqb (digits bs) 0) (Err (NoToken p)) (few (Operand l) (digits bs + 1) p bs) P
     (λ e. refl)
-    (λ some. cond_both (leb (digits bs) 4) (Ok (Some (Operand l (value_of (digits bs) bs), digits bs + 1))) (Err (TooManyDigits p)) P
+    (λ some. cond_both (leb (digits bs) 4) (Ok (Operand l (value_of (digits bs) bs), digits bs + 1)) (Err (TooManyDigits p)) P
     (λ e. (record { token = byte_of l ∷ s.run; rest = s.rest; cut = ap (λ x. byte_of l ∷ x) s.cut; written = (s.run, refl, numeral bs s (grind (arith, nat_tests)) (leb-true (digits bs) 4 e)); ends = s.stops }, omega (arith, s.long)))
     (λ e. (refl, inr (l, bs, refl, leb-false (digits bs) 4 e))))
 
-word_told : (p : ℕ) (bs : List ℕ) (s : Split is_ascii_lowercase bs) (o : Option Word) → o ≡ word_of s.run → Told p bs (as_word o (letters bs) p)
+word_told : (p : ℕ) (bs : List ℕ) (s : Split is_ascii_lowercase bs) (o : Option Word) → o ≡ word_of s.run → Says p bs (as_word o (letters bs) p)
 word_told p bs s None e = refl
 word_told p bs s (Some w) e = (record { token = s.run; rest = s.rest; cut = s.cut; written = spells s.run w (sym e); ends = s.stops }, s.long)
 
-keyword_told : (p : ℕ) (bs : List ℕ) → Told p bs (keyword p bs)
+keyword_told : (p : ℕ) (bs : List ℕ) → Says p bs (keyword p bs)
 keyword_told p bs = let s = split is_ascii_lowercase bs in word_told p bs s (word_of (take (letters bs) bs)) (ap word_of (taken is_ascii_lowercase bs s))
 
-capital_told : (p b : ℕ) (bs : List ℕ) → Told p (b ∷ bs) (capital (letter_of b) p bs)
+capital_told : (p b : ℕ) (bs : List ℕ) → Says p (b ∷ bs) (capital (letter_of b) p bs)
 capital_told p b bs =
-    let P : Option Letter → Type 0 = λ o. Told p (b ∷ bs) (capital o p bs) in
-    let at : (l : Letter) → eqb b (byte_of l) ≡ true → Told p (b ∷ bs) (operand l p bs) = λ l e. subst (λ (c : ℕ). Told p (c ∷ bs) (operand l p bs)) (sym (eqb-true b (byte_of l) e)) (operand_told l p bs) in
+    let P : Option Letter → Type 0 = λ o. Says p (b ∷ bs) (capital o p bs) in
+    let at : (l : Letter) → eqb b (byte_of l) ≡ true → Says p (b ∷ bs) (operand l p bs) = λ l e. subst (λ (c : ℕ). Says p (c ∷ bs) (operand l p bs)) (sym (eqb-true b (byte_of l) e)) (operand_told l p bs) in
     cond_both (eqb b 73) (Some I) (cond (eqb b 81) (Some Q) (cond (eqb b 88) (Some X) None)) P (at I)
     (λ _. cond_both (eqb b 81) (Some Q) (cond (eqb b 88) (Some X) None) P (at Q)
     (λ _. cond_both (eqb b 88) (Some X) None P (at X) (λ _. refl)))
 
 -- a sign, by its byte
-one : (k : TokenKind) (c b p : ℕ) (bs : List ℕ) → Written k (c ∷ []) → Ends k bs → eqb b c ≡ true → Told p (b ∷ bs) (Ok (Some (k, 1)))
+one : (k : TokenKind) (c b p : ℕ) (bs : List ℕ) → Written k (c ∷ []) → Ends k bs → eqb b c ≡ true → Says p (b ∷ bs) (Ok (k, 1))
 one k c b p bs written ends e = (record { token = c ∷ []; rest = bs; cut = ap (λ x. x ∷ bs) (eqb-true b c e); written = written; ends = ends }, refl)
 
-signed_told : (p b : ℕ) (bs : List ℕ) (other : Piece) → Told p (b ∷ bs) other → Told p (b ∷ bs) (signed (sign_of b) other)
+signed_told : (p b : ℕ) (bs : List ℕ) (other : Lexeme) → Says p (b ∷ bs) other → Says p (b ∷ bs) (signed (sign_of b) other)
 signed_told p b bs other t =
-    let P : Option TokenKind → Type 0 = λ o. Told p (b ∷ bs) (signed o other) in
+    let P : Option TokenKind → Type 0 = λ o. Says p (b ∷ bs) (signed o other) in
     cond_both (eqb b 10) (Some LineEnd) _ P (one LineEnd 10 b p bs refl tt)
     (λ _. cond_both (eqb b 44) (Some Comma) _ P (one Comma 44 b p bs refl tt)
     (λ _. cond_both (eqb b 46) (Some Dot) _ P (one Dot 46 b p bs refl tt)
@@ -86,38 +90,40 @@ signed_told p b bs other t =
     (λ _. cond_both (eqb b 47) (Some Slash) _ P (one Slash 47 b p bs refl tt)
     (λ _. cond_both (eqb b 92) (Some Backslash) None P (one Backslash 92 b p bs refl tt) (λ _. t)))))))))
 
+lexeme_told : (p b : ℕ) (bs : List ℕ) → Says p (b ∷ bs) (lexeme p (b ∷ bs))
+lexeme_told p b bs =
+    let P : Lexeme → Type 0 = Says p (b ∷ bs) in
+    cond_both (is_ascii_digit b) (number p (b ∷ bs)) _ P (λ e. number_told p (b ∷ bs) (rw e (omega arith)))
+    (λ _. cond_both (is_ascii_lowercase b) (keyword p (b ∷ bs)) _ P (λ e. keyword_told p (b ∷ bs))
+    (λ _. signed_told p b bs (capital (letter_of b) p bs) (capital_told p b bs)))
+
 -- each piece tells the truth
 pub told : (p b : ℕ) (bs : List ℕ) → Told p (b ∷ bs) (piece p (b ∷ bs))
-told p b bs =
-    let P : Piece → Type 0 = Told p (b ∷ bs) in
-    cond_both (eqb b 32) (Ok None) _ P (λ e. (bs, ap (λ x. x ∷ bs) (eqb-true b 32 e)))
-    (λ _. cond_both (is_ascii_digit b) (number p (b ∷ bs)) _ P (λ e. number_told p (b ∷ bs) (rw e (omega arith)))
-    (λ _. cond_both (is_ascii_lowercase b) (keyword p (b ∷ bs)) _ P (λ e. keyword_told p (b ∷ bs))
-    (λ _. signed_told p b bs (capital (letter_of b) p bs) (capital_told p b bs))))
+told p b bs = cond_both (eqb b 32) (Ok None) _ (Told p (b ∷ bs)) (λ e. (bs, ap (λ x. x ∷ bs) (eqb-true b 32 e))) (λ _. lexeme_told p b bs)
 
-digit_first : (p b : ℕ) (bs : List ℕ) → is_ascii_digit b ≡ true → piece p (b ∷ bs) ≡ number p (b ∷ bs)
+digit_first : (p b : ℕ) (bs : List ℕ) → is_ascii_digit b ≡ true → piece p (b ∷ bs) ≡ as_piece (number p (b ∷ bs))
 digit_first p b bs e =
     let dark : eqb b 32 ≡ false = grind (arith, nat_tests) in
-    cond-false (eqb b 32) (Ok None) _ dark ∙ cond-true (is_ascii_digit b) (number p (b ∷ bs)) _ e
+    cond-false (eqb b 32) (Ok None) _ dark ∙ ap as_piece (cond-true (is_ascii_digit b) (number p (b ∷ bs)) _ e)
 
-lower_first : (p b : ℕ) (bs : List ℕ) → is_ascii_lowercase b ≡ true → piece p (b ∷ bs) ≡ keyword p (b ∷ bs)
+lower_first : (p b : ℕ) (bs : List ℕ) → is_ascii_lowercase b ≡ true → piece p (b ∷ bs) ≡ as_piece (keyword p (b ∷ bs))
 lower_first p b bs e =
     let dark : eqb b 32 ≡ false = grind (arith, nat_tests) in
     let other : is_ascii_digit b ≡ false = grind (arith, nat_tests) in
-    cond-false (eqb b 32) (Ok None) _ dark ∙ cond-false (is_ascii_digit b) (number p (b ∷ bs)) _ other ∙ cond-true (is_ascii_lowercase b) (keyword p (b ∷ bs)) _ e
+    cond-false (eqb b 32) (Ok None) _ dark ∙ ap as_piece (cond-false (is_ascii_digit b) (number p (b ∷ bs)) _ other ∙ cond-true (is_ascii_lowercase b) (keyword p (b ∷ bs)) _ e)
 
-capital_first : (l : Letter) (p : ℕ) (bs : List ℕ) → piece p (byte_of l ∷ bs) ≡ operand l p bs
+capital_first : (l : Letter) (p : ℕ) (bs : List ℕ) → piece p (byte_of l ∷ bs) ≡ as_piece (operand l p bs)
 capital_first I p bs = refl
 capital_first Q p bs = refl
 capital_first X p bs = refl
 
-few_at : (kind : ℕ → TokenKind) (n p v : ℕ) (ds rest : List ℕ) → Numeral v ds → digits rest ≡ 0 → few kind n p (ds ++ rest) ≡ Ok (Some (kind v, n))
+few_at : (kind : ℕ → TokenKind) (n p v : ℕ) (ds rest : List ℕ) → Numeral v ds → digits rest ≡ 0 → few kind n p (ds ++ rest) ≡ Ok (kind v, n)
 few_at kind n p v ds rest m ends =
     let long : digits (ds ++ rest) ≡ length ds = run_append is_ascii_digit ds rest m.all ∙ omega arith in
     cond-true (leb (digits (ds ++ rest)) 4) _ (Err (TooManyDigits p)) (le-leb (digits (ds ++ rest)) 4 (omega (arith, m.few))) ∙
-    ap (λ x. Ok (Some (kind (value_of x (ds ++ rest)), n))) long ∙
-    ap (λ x. Ok (Some (kind (worth x), n))) (take-append_seam ds rest) ∙
-    ap (λ x. Ok (Some (kind x, n))) (sym m.value)
+    ap (λ x. Ok (kind (value_of x (ds ++ rest)), n)) long ∙
+    ap (λ x. Ok (kind (worth x), n)) (take-append_seam ds rest) ∙
+    ap (λ x. Ok (kind x, n)) (sym m.value)
 
 many_at : (kind : ℕ → TokenKind) (n p : ℕ) (bs : List ℕ) → 5 ≤ digits bs → few kind n p bs ≡ Err (TooManyDigits p)
 many_at kind n p bs h = cond-false (leb (digits bs) 4) _ (Err (TooManyDigits p)) (lt-leb (digits bs) 4 (omega arith))
@@ -126,8 +132,8 @@ number_whole : (p v : ℕ) (ds rest : List ℕ) → Numeral v ds → digits rest
 number_whole p v [] rest m ends = absurd (omega (arith, m.some))
 number_whole p v (b ∷ ds) rest m ends =
     digit_first p b (ds ++ rest) (first_passes is_ascii_digit b ds (omega (arith, m.all))) ∙
-    ap (λ n. few Digits n p (b ∷ (ds ++ rest))) (run_append is_ascii_digit (b ∷ ds) rest m.all ∙ omega arith) ∙
-    few_at Digits (length (b ∷ ds)) p v (b ∷ ds) rest m ends
+    ap (λ n. as_piece (few Digits n p (b ∷ (ds ++ rest)))) (run_append is_ascii_digit (b ∷ ds) rest m.all ∙ omega arith) ∙
+    ap as_piece (few_at Digits (length (b ∷ ds)) p v (b ∷ ds) rest m ends)
 
 operand_whole : (l : Letter) (p v : ℕ) (ds rest : List ℕ) → Numeral v ds → digits rest ≡ 0 → piece p (byte_of l ∷ (ds ++ rest)) ≡ Ok (Some (Operand l v, suc (length ds)))
 operand_whole l p v ds rest m ends =
@@ -135,18 +141,18 @@ operand_whole l p v ds rest m ends =
     let some : eqb (digits (ds ++ rest)) 0 ≡ false = ne_eqb (digits (ds ++ rest)) 0 (λ z. omega (arith, m.some)) in
     let n : digits (ds ++ rest) + 1 ≡ suc (length ds) = omega arith in
     capital_first l p (ds ++ rest) ∙
-    cond-false (eqb (digits (ds ++ rest)) 0) (Err (NoToken p)) _ some ∙
+    ap as_piece (cond-false (eqb (digits (ds ++ rest)) 0) (Err (NoToken p)) _ some ∙
     ap (λ x. few (Operand l) x p (ds ++ rest)) n ∙
-    few_at (Operand l) (suc (length ds)) p v ds rest m ends
+    few_at (Operand l) (suc (length ds)) p v ds rest m ends)
 
 word_whole : (p : ℕ) (w : Word) (s rest : List ℕ) → letters s ≡ length s → word_of s ≡ Some w → letters rest ≡ 0 → piece p (s ++ rest) ≡ Ok (Some (Keyword w, length s))
 word_whole p w [] rest all is ends = absurd (no_letters w is)
 word_whole p w (b ∷ s) rest all is ends =
     let long : letters (b ∷ (s ++ rest)) ≡ length (b ∷ s) = run_append is_ascii_lowercase (b ∷ s) rest all ∙ omega arith in
     lower_first p b (s ++ rest) (first_passes is_ascii_lowercase b s (omega (arith, all))) ∙
-    ap (λ n. as_word (word_of (take n (b ∷ (s ++ rest)))) n p) long ∙
-    ap (λ x. as_word (word_of x) (length (b ∷ s)) p) (take-append_seam (b ∷ s) rest) ∙
-    ap (λ o. as_word o (length (b ∷ s)) p) is
+    ap (λ n. as_piece (as_word (word_of (take n (b ∷ (s ++ rest)))) n p)) long ∙
+    ap (λ x. as_piece (as_word (word_of x) (length (b ∷ s)) p)) (take-append_seam (b ∷ s) rest) ∙
+    ap (λ o. as_piece (as_word o (length (b ∷ s)) p)) is
 
 sign_whole : (p c : ℕ) (k : TokenKind) (s rest : List ℕ) → s ≡ c ∷ [] → piece p (c ∷ rest) ≡ Ok (Some (k, 1)) → piece p (s ++ rest) ≡ Ok (Some (k, length s))
 sign_whole p c k s rest e h = ap (λ x. piece p (x ++ rest)) e ∙ h ∙ ap (λ x. Ok (Some (k, length x))) (sym e)
@@ -172,7 +178,7 @@ whole p k bs b = ap (λ x. piece p x) b.cut ∙ written_whole p k b.token b.rest
 -- so are too many digits
 pub many : (p : ℕ) (bs : List ℕ) → TooMany bs → piece p bs ≡ Err (TooManyDigits p)
 many p [] (inl h) = absurd (omega arith)
-many p (b ∷ bs) (inl h) = digit_first p b bs (first_passes is_ascii_digit b bs (omega arith)) ∙ many_at Digits (digits (b ∷ bs)) p (b ∷ bs) h
+many p (b ∷ bs) (inl h) = digit_first p b bs (first_passes is_ascii_digit b bs (omega arith)) ∙ ap as_piece (many_at Digits (digits (b ∷ bs)) p (b ∷ bs) h)
 many p bs (inr (l, ds, e, h)) =
     let some : eqb (digits ds) 0 ≡ false = ne_eqb (digits ds) 0 (λ z. omega arith) in
-    ap (λ x. piece p x) e ∙ capital_first l p ds ∙ cond-false (eqb (digits ds) 0) (Err (NoToken p)) _ some ∙ many_at (Operand l) (digits ds + 1) p ds h
+    ap (λ x. piece p x) e ∙ capital_first l p ds ∙ ap as_piece (cond-false (eqb (digits ds) 0) (Err (NoToken p)) _ some ∙ many_at (Operand l) (digits ds + 1) p ds h)

@@ -13,6 +13,10 @@ use Rattle.text.specs.declared.tokens.Tokens.{Tokens}
 use Rattle.text.specs.Spelling.{word_of}
 use Rattle.text.specs.Runs.{digits, letters, worth}
 
+-- the token that a text goes on with and its number of bytes, or a fault
+abbrev pub Lexeme : Type 0
+Lexeme = Result (TokenKind × ℕ) TextFault
+
 -- what a text goes on with: a blank is Ok None, a token of n bytes is Ok (Some (kind, n)), and anything else is a fault
 abbrev pub Piece : Type 0
 Piece = Result (Option (TokenKind × ℕ)) TextFault
@@ -48,49 +52,57 @@ abbrev pub numeral : List ℕ → Option (ℕ × ℕ)
 numeral bs = if nat_le (digits bs) 4 then Some (value_of (digits bs) bs, digits bs) else None
 
 -- a token of n bytes at place p, whose digits these bytes begin with
-abbrev pub few : (ℕ → TokenKind) → ℕ → ℕ → List ℕ → Piece
-few kind n p bs = if nat_le (digits bs) 4 then Ok (Some (kind (value_of (digits bs) bs), n)) else Err (TooManyDigits p)
+abbrev pub few : (ℕ → TokenKind) → ℕ → ℕ → List ℕ → Lexeme
+few kind n p bs = if nat_le (digits bs) 4 then Ok (kind (value_of (digits bs) bs), n) else Err (TooManyDigits p)
 
 -- the number at place p
-abbrev pub number : ℕ → List ℕ → Piece
+abbrev pub number : ℕ → List ℕ → Lexeme
 number p bs = few Digits (digits bs) p bs
 
 -- the operand whose letter stands at place p
-abbrev pub operand : Letter → ℕ → List ℕ → Piece
+abbrev pub operand : Letter → ℕ → List ℕ → Lexeme
 operand l p bs = if digits bs == 0 then Err (NoToken p) else few (Operand l) (digits bs + 1) p bs
 
 -- letters that are a word, n of them, or no word
-abbrev pub as_word : Option Word → ℕ → ℕ → Piece
+abbrev pub as_word : Option Word → ℕ → ℕ → Lexeme
 as_word None n p = Err (NoToken p)
-as_word (Some w) n p = Ok (Some (Keyword w, n))
+as_word (Some w) n p = Ok (Keyword w, n)
 
 -- the word at place p
-abbrev pub keyword : ℕ → List ℕ → Piece
+abbrev pub keyword : ℕ → List ℕ → Lexeme
 keyword p bs = as_word (word_of (take (letters bs) bs)) (letters bs) p
 
 -- a capital letter at place p, with these bytes behind it
-abbrev pub capital : Option Letter → ℕ → List ℕ → Piece
+abbrev pub capital : Option Letter → ℕ → List ℕ → Lexeme
 capital None p bs = Err (NoToken p)
 capital (Some l) p bs = operand l p bs
 
-abbrev pub signed : Option TokenKind → Piece → Piece
+-- the sign, or what else there is
+abbrev pub signed : Option TokenKind → Lexeme → Lexeme
 signed None other = other
-signed (Some k) other = Ok (Some (k, 1))
+signed (Some k) other = Ok (k, 1)
+
+-- the token at place p
+abbrev pub lexeme : ℕ → List ℕ → Lexeme
+lexeme p [] = Err (NoToken p)
+lexeme p (b ∷ bs) =
+    if is_ascii_digit b then number p (b ∷ bs)
+    else (if is_ascii_lowercase b then keyword p (b ∷ bs)
+    else signed (sign_of b) (capital (letter_of b) p bs))
+
+-- the same as a piece, which is no blank
+abbrev pub as_piece : Lexeme → Piece
+as_piece (Ok t) = Ok (Some t)
+as_piece (Err f) = Err f
 
 -- what begins at place p
 abbrev pub piece : ℕ → List ℕ → Piece
 piece p [] = Err (NoToken p)
-piece p (b ∷ bs) =
-    if b == 32 then Ok None
-    else (if is_ascii_digit b then number p (b ∷ bs)
-    else (if is_ascii_lowercase b then keyword p (b ∷ bs)
-    else signed (sign_of b) (capital (letter_of b) p bs)))
+piece p (b ∷ bs) = if b == 32 then Ok None else as_piece (lexeme p (b ∷ bs))
 
--- a token has at least one byte, and no more than there are
-abbrev pub Within : Piece → ℕ → Type 0
-Within (Ok None) len = Unit {0}
-Within (Ok (Some (k, n))) len = (0 < n) × (n ≤ len)
-Within (Err f) len = Unit {0}
+-- a token of n bytes has at least one, and no more than there are
+abbrev pub Within : ℕ → ℕ → Type 0
+Within n len = (0 < n) × (n ≤ len)
 
 -- the tokens, and the fault before which they end
 pub record Lexed : Type 0 where

@@ -1,12 +1,12 @@
 //! Cutting a text into tokens, see docs/chart-text.md.
-ghost use Rattle.std.specs.Prelude.{◌≡◌, ◌+◌, ◌*◌, ◌^◌, ◌<◌, ◌≤◌, [], length, drop, IfOk};
-ghost use Rattle.text.specs.Lex.{letter_of, sign_of, numeral, number, keyword, operand, piece, Within};
+ghost use Rattle.std.specs.Prelude.{◌≡◌, ◌+◌, ◌*◌, ◌^◌, ◌<◌, ◌≤◌, [], length, drop, IfOk, IfSome};
+ghost use Rattle.text.specs.Lex.{letter_of, sign_of, numeral, number, keyword, operand, lexeme, piece, Within};
 ghost use Rattle.text.specs.Runs.{digits, letters};
 ghost use Rattle.text.specs.Spelled.{Spelled, Alone, Rising, end_of};
 ghost use Rattle.text.specs.Lex.{list_in, lex, tokens_of, answer};
 
 use crate::token::{Letter, Token, TokenKind};
-use crate::tokens::{LONGEST, Tokens};
+use crate::tokens::{LONGEST_TEXT, Tokens};
 use crate::word::word_of;
 use faults::TextFault;
 use room::Reserved;
@@ -15,7 +15,7 @@ use std::alloc::{AllocError, Global};
 // The digits of the longest number.
 const MOST: usize = 4;
 
-// The letter of an operand. An Option says all that there is to say of a byte.
+// The letter of an operand.
 fn letter(b: u8) -> Option<Letter>
     ensures { result ≡ letter_of b }
 {
@@ -27,7 +27,7 @@ fn letter(b: u8) -> Option<Letter>
     }
 }
 
-// The token that is a byte of its own. As with a letter, an Option says all that there is to say.
+// The token that is a byte of its own.
 fn sign(b: u8) -> Option<TokenKind>
     ensures { result ≡ sign_of b }
 {
@@ -45,8 +45,7 @@ fn sign(b: u8) -> Option<TokenKind>
     }
 }
 
-// How many digits the bytes begin with. This run and the next are a function each: written where they are used, a chain's
-// count is not known there, and the proof did not close.
+// How many digits the bytes begin with. A function of its own, because a proof knows the count only by this contract.
 fn digit_run(bytes: &[u8]) -> usize
     ensures { result ≡ digits bytes.now }
 {
@@ -83,55 +82,65 @@ struct Rest<'a> {
 }
 
 impl Rest<'_> {
-    // The number that the bytes begin with.
-    fn number(&self) -> Result<Option<(TokenKind, usize)>, TextFault>
+    // The number that the bytes begin with, and its length.
+    fn number(&self) -> Result<(TokenKind, usize), TextFault>
         requires { 0 < digits self.now.bytes.now }
         ensures is { result ≡ number self.now.place self.now.bytes.now }
-        ensures within { Within result (length self.now.bytes.now) }
+        ensures within { IfOk result (λ t. Within t.1 (length self.now.bytes.now)) }
     {
         let (value, n) = numeral(self.bytes).ok_or(TextFault::TooManyDigits(self.place))?;
-        Ok(Some((TokenKind::Digits(value), n)))
+        Ok((TokenKind::Digits(value), n))
     }
 
-    // The word that the bytes begin with.
-    fn keyword(&self) -> Result<Option<(TokenKind, usize)>, TextFault>
+    // The word that the bytes begin with, and its length.
+    fn keyword(&self) -> Result<(TokenKind, usize), TextFault>
         requires { 0 < letters self.now.bytes.now }
         ensures is { result ≡ keyword self.now.place self.now.bytes.now }
-        ensures within { Within result (length self.now.bytes.now) }
+        ensures within { IfOk result (λ t. Within t.1 (length self.now.bytes.now)) }
     {
         let n = letter_run(self.bytes);
         let word = word_of(&self.bytes[..n]).ok_or(TextFault::NoToken(self.place))?;
-        Ok(Some((TokenKind::Keyword(word), n)))
+        Ok((TokenKind::Keyword(word), n))
     }
 
-    // The operand of this letter, which is the first of the bytes.
-    fn operand(&self, letter: Letter) -> Result<Option<(TokenKind, usize)>, TextFault>
+    // The operand of this letter, which is the first of the bytes, and its length.
+    fn operand(&self, letter: Letter) -> Result<(TokenKind, usize), TextFault>
         requires { 0 < length self.now.bytes.now }
         ensures is { result ≡ operand letter self.now.place (drop 1 self.now.bytes.now) }
-        ensures within { Within result (length self.now.bytes.now) }
+        ensures within { IfOk result (λ t. Within t.1 (length self.now.bytes.now)) }
     {
         let too_many = TextFault::TooManyDigits(self.place);
         match numeral(&self.bytes[1..]).ok_or(too_many)? {
             (_, 0) => Err(TextFault::NoToken(self.place)),
-            (value, n) => Ok(Some((TokenKind::Operand(letter, value), n + 1))),
+            (value, n) => Ok((TokenKind::Operand(letter, value), n + 1)),
         }
     }
 
-    // What the bytes begin with: a blank, or a token with its length.
-    fn piece(&self) -> Result<Option<(TokenKind, usize)>, TextFault>
-        ensures is { result ≡ piece self.now.place self.now.bytes.now }
-        ensures within { Within result (length self.now.bytes.now) }
+    // The token that the bytes begin with, and its length.
+    fn lexeme(&self) -> Result<(TokenKind, usize), TextFault>
+        ensures is { result ≡ lexeme self.now.place self.now.bytes.now }
+        ensures within { IfOk result (λ t. Within t.1 (length self.now.bytes.now)) }
     {
         let fault = TextFault::NoToken(self.place);
         let (first, _) = self.bytes.split_first().ok_or(fault)?;
         match *first {
-            b' ' => Ok(None),
             b'0'..=b'9' => self.number(),
             b'a'..=b'z' => self.keyword(),
             b => match sign(b) {
-                Some(kind) => Ok(Some((kind, 1))),
+                Some(kind) => Ok((kind, 1)),
                 None => self.operand(letter(b).ok_or(fault)?),
             },
+        }
+    }
+
+    // What the bytes begin with: None for a blank, or a token with its length.
+    fn piece(&self) -> Result<Option<(TokenKind, usize)>, TextFault>
+        ensures is { result ≡ piece self.now.place self.now.bytes.now }
+        ensures within { IfOk result (λ p. IfSome p (λ t. Within t.1 (length self.now.bytes.now))) }
+    {
+        match self.bytes {
+            [b' ', ..] => Ok(None),
+            _ => Ok(Some(self.lexeme()?)),
         }
     }
 
@@ -148,9 +157,9 @@ impl Rest<'_> {
 }
 
 // Puts the tokens of the text behind each other, up to its first fault.
-fn fill(list: &mut Reserved<Token, LONGEST>, text: &[u8]) -> Result<(), TextFault>
+fn fill(list: &mut Reserved<Token, LONGEST_TEXT>, text: &[u8]) -> Result<(), TextFault>
     requires empty { list.old ≡ [] }
-    requires room { length text.now ≤ LONGEST }
+    requires room { length text.now ≤ LONGEST_TEXT }
     ensures list { list.new ≡ (lex text.now 0 0).tokens }
     ensures stop { result ≡ answer (lex text.now 0 0).stop }
 {
@@ -190,7 +199,7 @@ impl Tokens {
         ensures rising { Rising 0 (list_in self.new) (end_of (tokens_of text.now).stop (length text.now)) }
     {
         self.list.clear();
-        if text.len() > LONGEST {
+        if text.len() > LONGEST_TEXT {
             return Err(TextFault::TooLong);
         }
         fill(&mut self.list, text)

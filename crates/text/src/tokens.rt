@@ -2,11 +2,11 @@
 use crate::token::Token;
 use room::Reserved;
 
-// The bytes of the longest text.
-pub(crate) const LONGEST: usize = 32768;
+// How many bytes the longest text has.
+pub(crate) const LONGEST_TEXT: usize = 32768;
 
 /// A list of tokens with room for those of any text.
 #[derive(Drop)]
 pub struct Tokens {
-    pub(crate) list: Reserved<Token, LONGEST>,
+    pub(crate) list: Reserved<Token, LONGEST_TEXT>,
 }
