@@ -12,7 +12,7 @@ use Rattle.text.specs.declared.token.Token.{Token}
 use Rattle.text.specs.declared.token.TokenKind.{TokenKind}
 use Rattle.text.specs.declared.token.TokenKind.TheVariants.{Keyword, Digits, Operand, Comma, Dot, Plus, Bang, Open, Close, Slash, Backslash, LineEnd}
 use Rattle.conditions.specs.Read.{Heads, Lacks}
-use Rattle.conditions.specs.Readers.{Takes, Behind}
+use Rattle.conditions.specs.Readers.{Takes, Behind, Grown}
 use Rattle.conditions.specs.declared.rest.Rest.{Rest}
 use Rattle.conditions.specs.Tree.{Cond}
 use Rattle.conditions.specs.Scan as condition
@@ -300,6 +300,13 @@ tested k steps words n =
     ap (λ z. pushed k z) (simp append_assoc)
 
 -- a whole transition
+-- the words of a transition's test stand behind those of before, whatever follows
+pub grown_test : (k mid inside after : Kept) (steps words : List Instruction) (n : ℕ) → mid ≡ pushed (pushed k steps) (instruction.AndOpen ∷ []) → inside ≡ pushed mid words → after ≡ pushed (pushed inside (instruction.Close ∷ [])) (instruction.Store n ∷ []) → Grown k after
+grown_test k mid inside after steps words n em ei ea = record {
+  more = steps ++ (enclosed instruction.AndOpen words ++ (instruction.Store n ∷ []));
+  emitted = ea ∙ ap (λ z. pushed (pushed z (instruction.Close ∷ [])) (instruction.Store n ∷ [])) (ei ∙ ap (λ z. pushed z words) em) ∙ tested k steps words n;
+}
+
 pub trans_reads : (t : Transition) (from r q s u rest left : Rest) (k mid inside after : Kept) (m : ℕ) → ReadsNumber from t.number r → ReadsWord From r q → ReadsList To q t.from.now s → ReadsList When s t.to.now u → mid ≡ pushed (pushed k (step_tests (numbers_in t.from.now))) (instruction.AndOpen ∷ []) → Wholly u mid rest inside → after ≡ pushed (pushed inside (instruction.Close ∷ [])) (instruction.Store t.number.value ∷ []) → m ≡ length u.tokens.now - length rest.tokens.now → t.condition.now ≡ take m u.tokens.now → ReadsEnd rest left → LineFrom transing from (code.Trans t) left k after
 trans_reads t from r q s u rest left k mid inside after m x y z v em w ea el ec o =
     let g = guard_reads t.number z.tree v.tree [] condition.start u.end u.tokens.now rest.tokens.now w.tree w.is in

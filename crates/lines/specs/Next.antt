@@ -3,6 +3,7 @@ use Rattle.std.specs.Prelude.{◌≡◌, ◌<◌, List, [], length, Some, None, 
 use Rattle.faults.specs.declared.TextFault.{TextFault}
 use Rattle.words.specs.Emitted.{Kept, pushed}
 use Rattle.conditions.specs.declared.rest.Rest.{Rest}
+use Rattle.conditions.specs.Readers.{Grown}
 use Rattle.lines.specs.declared.shape.Line.{Line}
 use Rattle.lines.specs.Grammar.{Tree}
 use Rattle.lines.specs.Text.{read_lines, between, put}
@@ -28,4 +29,4 @@ pub record TakesLine (from : Rest) (before after : Kept) (l : Line) (rest : Rest
 abbrev pub NextLine : Rest → Kept → Kept → Result (Option (Line × Rest)) TextFault → Type 0
 NextLine from before after (Ok None) = (from.tokens.now ≡ []) × (after ≡ before)
 NextLine from before after (Ok (Some p)) = TakesLine from before after p.0 p.1
-NextLine from before after (Err f) = (lines_left from ≡ Err f) × Stuck from.tokens.now from.end f
+NextLine from before after (Err f) = (lines_left from ≡ Err f) × Stuck from.tokens.now from.end f × Grown before after

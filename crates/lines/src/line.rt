@@ -1,6 +1,7 @@
 //! One line.
 ghost use Rattle.std.specs.Prelude.{◌≡◌, IfErr, MatchResult};
 ghost use Rattle.words.specs.Emitted.{kept_in};
+ghost use Rattle.conditions.specs.Readers.{Grown};
 ghost use Rattle.lines.specs.Scan.{scan, fails, start, stepping, transing, holding, entering};
 ghost use Rattle.lines.specs.Laws.{Only, Nowhere, Stuck};
 ghost use Rattle.lines.specs.Parts.{ReadsLine, LineFrom, QuietFrom, NoLineFrom};
@@ -16,8 +17,8 @@ use text::token::{TokenKind, Word};
 use words::instruction::Instruction;
 use words::list::WordList;
 
-/// The line that the tokens begin with, and what is left behind its end. The words that test a transition go to `guards`;
-/// refused, which of them are there is open.
+/// The line that the tokens begin with, and what is left behind its end. The words that test a transition are put behind
+/// those in `guards`. Refused, it has the words that it had before, and some words behind them; which, is open.
 pub fn read_line<'a>(
     input: Rest<'a>,
     guards: &mut WordList,
@@ -29,6 +30,7 @@ pub fn read_line<'a>(
         (λ p. Only input.entry.tokens.now p.1.tokens.now)
         (λ f. Nowhere input.entry.tokens.now) }
     ensures refused { IfErr result (λ f. Stuck input.entry.tokens.now input.entry.end f) }
+    ensures leaves { IfErr result (λ f. Grown (kept_in guards.old) (kept_in guards.new)) }
 {
     read(input, guards)
 }
@@ -47,10 +49,12 @@ pub fn next_line<'a>(
     Ok(Some((line, rest)))
 }
 
+#[tactic(auto, using(conditions::proofs::Pushing::grown_none))]
 fn read<'a>(input: Rest<'a>, guards: &mut WordList) -> Result<(Line<'a>, Rest<'a>), TextFault>
-    ensures { MatchResult result
+    ensures reads { MatchResult result
         (λ p. LineFrom start input.entry p.0 p.1 (kept_in guards.old) (kept_in guards.new))
         (λ f. NoLineFrom start input.entry f) }
+    ensures leaves { IfErr result (λ f. Grown (kept_in guards.old) (kept_in guards.new)) }
 {
     if input.tokens.is_empty() {
         return Ok((Line::Empty, input));
@@ -105,10 +109,12 @@ fn enter<'a>(input: Rest<'a>) -> Result<(Line<'a>, Rest<'a>), TextFault>
     ))
 }
 
+#[tactic(auto, using(conditions::proofs::Pushing::grown_none, conditions::proofs::Pushing::grown_on))]
 fn trans<'a>(input: Rest<'a>, guards: &mut WordList) -> Result<(Line<'a>, Rest<'a>), TextFault>
-    ensures { MatchResult result
+    ensures reads { MatchResult result
         (λ p. LineFrom transing input.entry p.0 p.1 (kept_in guards.old) (kept_in guards.new))
         (λ f. NoLineFrom transing input.entry f) }
+    ensures leaves { IfErr result (λ f. Grown (kept_in guards.old) (kept_in guards.new)) }
 {
     let (number, behind_number) = number(input)?;
     let first = word(behind_number, Word::From)?;

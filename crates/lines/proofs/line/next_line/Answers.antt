@@ -8,7 +8,7 @@ pub returns-in_err-line : goal.returns-in_err-line
 returns-in_err-line c =
     let p = err_from_is_err_and c.from_residual.result c.from_residual.ensures.1 in
     let some : 0 < length c.args.input.tokens.now = search rules in
-    rw (p.1, p.2) (first_fails _ _ _ some c.in_err-line.ensures.reads, c.in_err-line.ensures.refused)
+    rw (p.1, p.2) (first_fails _ _ _ some c.in_err-line.ensures.reads, c.in_err-line.ensures.refused, c.in_err-line.ensures.leaves)
 
 pub returns : goal.returns
 returns c =
