@@ -1,11 +1,12 @@
 -- What a draft holds, line by line. Assumes nothing.
-use Rattle.std.specs.Prelude.{◌≡◌, ℕ, List, Ok, Err, Result}
+use Rattle.std.specs.Prelude.{◌≡◌, ℕ, true, false, List, [], ◌∷◌, Ok, Err, Result}
 use Rattle.faults.specs.declared.TextFault.{TextFault}
+use Rattle.frames.specs.Bits.{on}
 use Rattle.words.specs.Emitted.{Kept, kept_in, nothing, pushed, joined}
-use Rattle.lines.specs.Grammar.{Tree}
+use Rattle.lines.specs.Grammar.{Tree, empty, step, trans, hold, enter}
 use Rattle.lines.specs.Guards.{guard_words}
 use Rattle.translation.specs.declared.draft.Draft.{Draft}
-use Rattle.translation.specs.Translation.{each, started, started_all, initial_frame, reset_words, set_words, enter_words, hold_words, clear_part, enter_part, hold_part}
+use Rattle.translation.specs.Translation.{each, initial_frame, reset_words, set_words, enter_words, hold_words, clear_part, enter_part, hold_part}
 
 -- the initial steps, and what is kept of each list
 pub record Sketch : Type 0 where
@@ -41,6 +42,19 @@ closed d =
       enter = d.enter;
       hold = d.hold;
     }
+
+-- the frame with a line more: the bit of its step on, if the step is initial
+abbrev pub started : ℕ → Tree → ℕ
+started x empty = x
+started x (step n true) = on x n.value
+started x (step n false) = x
+started x (trans n fs ts c us) = x
+started x (hold n q) = x
+started x (enter n a q) = x
+
+abbrev pub started_all : ℕ → List Tree → ℕ
+started_all x [] = x
+started_all x (l ∷ ls) = started_all (started x l) ls
 
 -- with a line more, but for the words that test its transition
 abbrev pub noted : Sketch → Tree → Sketch

@@ -1,11 +1,12 @@
 -- The instructions of a chart's parts, by its lines in the order of the text. Assumes nothing.
-use Rattle.std.specs.Prelude.{ℕ, true, false, List, [], ◌∷◌, ◌++◌, map}
+use Rattle.std.specs.Prelude.{ℕ, Bool, false, ◌&&◌, ◌==◌, List, [], ◌∷◌, ◌++◌, map}
+use Rattle.std.specs.List.{list_any}
 use Rattle.words.specs.declared.instruction.Operand.TheVariants as operand
 use Rattle.words.specs.declared.instruction.Target.{Target}
 use Rattle.words.specs.declared.instruction.Target.TheVariants as target
 use Rattle.words.specs.declared.instruction.Instruction.{Instruction}
 use Rattle.words.specs.declared.instruction.Instruction.TheVariants.{Load, AndNot, Set, Reset, Hold}
-use Rattle.frames.specs.Bits.{on}
+use Rattle.frames.specs.Bits.{pack}
 use Rattle.lines.specs.declared.shape.Number.{Number}
 use Rattle.lines.specs.declared.shape.Action.{Action}
 use Rattle.lines.specs.declared.shape.Action.TheVariants as action
@@ -74,19 +75,14 @@ enter_part ls = each enter_words ls
 abbrev pub hold_part : List Tree → List Instruction
 hold_part ls = each hold_words ls
 
--- the frame, with the bit of the line's step on if the step is initial
-abbrev pub started : ℕ → Tree → ℕ
-started x empty = x
-started x (step n true) = on x n.value
-started x (step n false) = x
-started x (trans n fs ts c us) = x
-started x (hold n q) = x
-started x (enter n a q) = x
+-- whether the line makes step n initial
+abbrev pub makes_initial : ℕ → Tree → Bool
+makes_initial n empty = false
+makes_initial n (step m b) = b && n == m.value
+makes_initial n (trans m fs ts c us) = false
+makes_initial n (hold m q) = false
+makes_initial n (enter m a q) = false
 
-abbrev pub started_all : ℕ → List Tree → ℕ
-started_all x [] = x
-started_all x (l ∷ ls) = started_all (started x l) ls
-
--- the bits of the initial steps
-abbrev pub initial_frame : List Tree → ℕ
-initial_frame ls = started_all 0 ls
+-- the frame whose bit n is on exactly if one of the lines makes step n initial
+unfoldable pub initial_frame : List Tree → ℕ
+initial_frame ls = pack 64 (λ n. list_any (makes_initial n) ls)
