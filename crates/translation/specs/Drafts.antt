@@ -17,6 +17,7 @@ pub record Sketch : Type 0 where
   pub enter : Kept
   pub hold : Kept
 
+-- what this draft holds
 abbrev pub sketch_of : Draft → Sketch
 sketch_of d =
     record {
@@ -28,6 +29,7 @@ sketch_of d =
       hold = kept_in d.hold;
     }
 
+-- no initial steps and no words
 abbrev pub blank : Sketch
 blank = record { initial = 0; clear = nothing; resets = nothing; sets = nothing; enter = nothing; hold = nothing }
 
@@ -52,6 +54,7 @@ started x (trans n fs ts c us) = x
 started x (hold n q) = x
 started x (enter n a q) = x
 
+-- the frame with the lines of a text more
 abbrev pub started_all : ℕ → List Tree → ℕ
 started_all x [] = x
 started_all x (l ∷ ls) = started_all (started x l) ls

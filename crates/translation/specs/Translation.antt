@@ -47,6 +47,7 @@ set_words (enter n a q) = []
 abbrev pub newly : ℕ → Action → ℕ → List Instruction
 newly n a q = Load (operand.Step n) ∷ AndNot (operand.Before n) ∷ switch a (target.Output q) ∷ []
 
+-- the words of an enter line
 abbrev pub enter_words : Tree → List Instruction
 enter_words empty = []
 enter_words (step n b) = []
@@ -58,6 +59,7 @@ enter_words (enter n a q) = newly n.value a q.value
 abbrev pub held : ℕ → ℕ → List Instruction
 held n q = Load (operand.Step n) ∷ Hold q ∷ []
 
+-- the words of a hold line
 abbrev pub hold_words : Tree → List Instruction
 hold_words empty = []
 hold_words (step n b) = []
@@ -69,9 +71,11 @@ hold_words (enter n a q) = []
 abbrev pub clear_part : List Tree → List Instruction
 clear_part ls = each guard_words ls ++ (each reset_words ls ++ each set_words ls)
 
+-- the words of the enter lines
 abbrev pub enter_part : List Tree → List Instruction
 enter_part ls = each enter_words ls
 
+-- the words of the hold lines
 abbrev pub hold_part : List Tree → List Instruction
 hold_part ls = each hold_words ls
 
