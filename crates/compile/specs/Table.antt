@@ -1,5 +1,5 @@
 -- Texts with what they are compiled to, by the definitions alone. Assumes nothing.
-use Rattle.std.specs.Prelude.{◌≡◌, ℕ, List, [], ◌∷◌, ◌++◌, Ok, Err, codes, Result}
+use Rattle.std.specs.Prelude.{◌≡◌, ℕ, ◌≤◌, List, [], ◌∷◌, ◌++◌, Ok, Err, codes, Result}
 use Rattle.faults.specs.declared.TextFault.TheVariants.{NumberTooLarge}
 use Rattle.faults.specs.declared.ChartFault.TheVariants.{Text, NoInitialStep}
 use Rattle.faults.specs.declared.CodeFault.{CodeFault}
@@ -27,10 +27,11 @@ abbrev pub Sections : Result (List ℕ) CodeFault → Directory → Type 0
 Sections (Ok file) d = directory_of file ≡ d
 Sections (Err f) d = ⊥
 
+-- what the texts are compiled to, whatever the buffer's length; the two-step chart in a buffer of 136 bytes or more
 pub record Table : Type 0 where
-  pub nothing : compiled [] 136 ≡ Err (Chart (NoInitialStep 0))
-  pub step_64 : compiled (codes "step 64") 136 ≡ Err (Chart (Text (NumberTooLarge 5)))
-  pub step_63 : compiled (codes "step 63") 136 ≡ Err (Chart (NoInitialStep 7))
+  pub nothing : (room : ℕ) → compiled [] room ≡ Err (Chart (NoInitialStep 0))
+  pub step_64 : (room : ℕ) → compiled (codes "step 64") room ≡ Err (Chart (Text (NumberTooLarge 5)))
+  pub step_63 : (room : ℕ) → compiled (codes "step 63") room ≡ Err (Chart (NoInitialStep 7))
   pub two_steps :
-      Sections (compiled two_step_chart 136)
+      (room : ℕ) → 136 ≤ room → Sections (compiled two_step_chart room)
       (record { initial = section_at 36 8; clear = section_at 44 72; enter = section_at 116 12; hold = section_at 128 8 })

@@ -3,9 +3,9 @@ use Rattle.std.proofs.Common.{◌≡◌, ℕ, zero, suc, ◌+◌, ◌-◌, ◌*�
 use native.Mathlib.Nat.{div-eq_of_lt}
 use lib.Bits.{bit_and, bit_or, and_step, or_step, or_lt, and_le_l}
 use Rattle.std.proofs.lemmas.Nat.{shr-shr, pow_below}
-use Rattle.std.proofs.lemmas.Bool.{cond-true, cond-false, cases_Bool, ltb-true}
+use Rattle.std.proofs.lemmas.Bool.{cond-true, cond-false, cases_Bool, ltb-true, ltb-false}
 use Rattle.std.proofs.lemmas.Bool.Decides.{nat_tests}
-use Rattle.frames.specs.Bits.{bit, mask, on, off, pack}
+use Rattle.frames.specs.Bits.{bit, mask, on, off, TurnedOn, TurnedOff, pack}
 
 pub bit_zero : (x : ℕ) → bit 0 x ≡ eqb (x % 2) 1
 unfolding bit
@@ -85,10 +85,10 @@ bit_rest (suc k) (suc m) x h l =
     same_high m (2 ^ suc k - 1 - x) _ e ∙ bit_rest k m (x / 2) (omega (arith, pow-suc 2 k, h)) (omega arith) ∙ sym (ap not (bit_suc m x))
 
 -- a frame has no bit above its last
-pub bit_above : (k n x : ℕ) → x < 2 ^ k → k ≤ n → bit n x ≡ false
+pub bit_above : (n x : ℕ) → x < 2 ^ 64 → 64 ≤ n → bit n x ≡ false
 unfolding bit
-bit_above k n x hx h =
-    let wide : 2 ^ k ≤ 2 ^ n = pow_mono h in
+bit_above n x hx h =
+    let wide : 2 ^ 64 ≤ 2 ^ n = pow_mono h in
     let below : x < 2 ^ n = omega arith in
     ap (λ (y : ℕ). eqb (y % 2) 1) (div-eq_of_lt below)
 
@@ -121,6 +121,30 @@ on_fits x n hx = or_lt 64 x (mask n) hx (mask_fits n)
 
 pub off_fits : (x n : ℕ) → x < 2 ^ 64 → off x n < 2 ^ 64
 off_fits x n hx = omega (arith, and_le_l x (2 ^ 64 - 1 - mask n))
+
+-- ---- which bits are on afterwards
+on_below : (b e l : Bool) → l ≡ true → (b || e) ≡ (b || e && l)
+on_below b e l h = grind (arith, nat_tests, h)
+
+on_above : (b c e l : Bool) → c ≡ false → b ≡ false → l ≡ false → c ≡ (b || e && l)
+on_above b c e l h i j = grind (arith, nat_tests, h, i, j)
+
+off_above : (b c e : Bool) → c ≡ false → b ≡ false → c ≡ (b && not e)
+off_above b c e h i = grind (arith, nat_tests, h, i)
+
+pub turned_on : (x n : ℕ) → x < 2 ^ 64 → TurnedOn x n (on x n)
+turned_on x n hx k =
+    ⊎_elim
+    (λ t. bit_on k x n (ltb-true k 64 t) ∙ on_below (bit k x) (eqb k n) (ltb k 64) t)
+    (λ f. let above = ltb-false k 64 f in on_above (bit k x) _ (eqb k n) (ltb k 64) (bit_above k (on x n) (on_fits x n hx) above) (bit_above k x hx above) f)
+    (cases_Bool (ltb k 64))
+
+pub turned_off : (x n : ℕ) → x < 2 ^ 64 → TurnedOff x n (off x n)
+turned_off x n hx k =
+    ⊎_elim
+    (λ t. bit_off k x n (ltb-true k 64 t))
+    (λ f. let above = ltb-false k 64 f in off_above (bit k x) _ (eqb k n) (bit_above k (off x n) (off_fits x n hx) above) (bit_above k x hx above))
+    (cases_Bool (ltb k 64))
 
 -- ---- a number is its bits
 low_from : (x y : ℕ) → bit 0 x ≡ bit 0 y → x % 2 ≡ y % 2

@@ -1,6 +1,6 @@
 //! Single bits of a frame, by their numbers. A number above 63 has no bit.
 ghost use Rattle.std.specs.Prelude.{◌≡◌, ◌%◌, ◌==◌};
-ghost use Rattle.frames.specs.Bits.{bit, on, off};
+ghost use Rattle.frames.specs.Bits.{bit, on, off, TurnedOn, TurnedOff};
 ghost use Rattle.frames.specs.Bits.{mask as masked};
 
 // The frame with this bit alone.
@@ -17,6 +17,7 @@ fn is_odd(frame: u64) -> bool
 }
 
 /// Whether the bit is on.
+#[tactic(auto, using(crate::proofs::BitLaws::bit_above))]
 pub fn is_on(frame: u64, number: u8) -> bool
     ensures { result ≡ bit number frame }
 {
@@ -28,15 +29,19 @@ pub fn is_on(frame: u64, number: u8) -> bool
 }
 
 /// The frame with the bit on.
+#[tactic(auto, using(crate::proofs::BitLaws::turned_on))]
 pub fn with_on(frame: u64, number: u8) -> u64
-    ensures { result ≡ on frame number }
+    ensures is { result ≡ on frame number }
+    ensures bits { TurnedOn frame number result }
 {
     frame | mask(number)
 }
 
 /// The frame with the bit off.
+#[tactic(auto, using(crate::proofs::BitLaws::turned_off))]
 pub fn with_off(frame: u64, number: u8) -> u64
-    ensures { result ≡ off frame number }
+    ensures is { result ≡ off frame number }
+    ensures bits { TurnedOff frame number result }
 {
     frame & !mask(number)
 }

@@ -3,3 +3,4 @@ pub mod Emitting
 pub mod Noting
 pub mod Reading
 pub mod Limiting
+pub mod Starting

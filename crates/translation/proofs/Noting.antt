@@ -6,8 +6,8 @@ use Rattle.lines.specs.declared.shape.Number.{Number}
 use Rattle.lines.specs.declared.shape.Action.{Action}
 use Rattle.lines.specs.declared.shape.Action.TheVariants as action
 use Rattle.lines.specs.Grammar.{Numbers, items, empty, step, trans, hold, enter}
-use Rattle.translation.specs.Translation.{started, switches, newly, held}
-use Rattle.translation.specs.Drafts.{Sketch, noted}
+use Rattle.translation.specs.Translation.{switches, newly, held}
+use Rattle.translation.specs.Drafts.{Sketch, started, noted}
 use Rattle.conditions.proofs.Pushing.{pushed_none}
 
 -- drafts that hold the same

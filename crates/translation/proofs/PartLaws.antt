@@ -26,7 +26,7 @@ use Rattle.lines.specs.Text.{read_lines, between}
 use Rattle.lines.proofs.WholeText.{texts_sound, each_fits}
 use Rattle.lines.specs.Guards.{step_tests, guard_words}
 use Rattle.translation.specs.Translation.{each, reset_words, set_words, enter_words, hold_words, clear_part, enter_part, hold_part}
-use Rattle.translation.specs.Soundness.{AllFit, Sound, SoundParts, PartsSound}
+use Rattle.translation.specs.Soundness.{AllFit, Sound, SoundParts}
 
 -- ---- one word: lawful, decoded to its instruction, its operator in its field
 operand_area_lem : (x : Operand) → operand_area x < 16
@@ -298,7 +298,7 @@ keeps_each p g h (l ∷ ls) f = keeps-++ p 0 (g l) (each g ls) (h l f.0) (keeps_
 whole : (p : Part) (ws : List Instruction) → Keeps p 0 ws → Sound p ws
 whole p ws k = record { words = ap (sound p 0) (sym (append-nil (map word_of ws))) ∙ k.passes []; back = k.back }
 
-pub parts_sound : PartsSound
+pub parts_sound : (ls : List Tree) → AllFit ls → SoundParts ls
 parts_sound ls f =
     record {
       clear =

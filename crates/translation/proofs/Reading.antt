@@ -9,9 +9,10 @@ use Rattle.faults.specs.declared.TextFault.{TextFault}
 use Rattle.lines.specs.Grammar.{Tree}
 use Rattle.lines.specs.Guards.{guard_words}
 use Rattle.translation.specs.declared.draft.Draft.{Draft}
-use Rattle.translation.specs.Translation.{each, started, started_all, reset_words, set_words, enter_words, hold_words}
-use Rattle.translation.specs.Drafts.{Sketch, sketch_of, blank, noted, closed, read_all, Reads, Drafted, Translated}
+use Rattle.translation.specs.Translation.{each, reset_words, set_words, enter_words, hold_words}
+use Rattle.translation.specs.Drafts.{Sketch, sketch_of, blank, started, started_all, noted, closed, read_all, Reads, Drafted, Translated}
 use Rattle.translation.proofs.Noting.{same_sketch}
+use Rattle.translation.proofs.Starting.{started_frame}
 
 each_more : (f : Tree → List Instruction) (ls : List Tree) (l : Tree) → each f (ls ++ l ∷ []) ≡ each f ls ++ f l
 each_more f [] l = append-nil (f l)
@@ -49,7 +50,7 @@ joined_parts xs ys zs = ap (λ k. joined k (pushed nothing zs)) (pushed_joined x
 drafted : (ls : List Tree) (draft : Draft) → sketch_of draft ≡ closed (read_all blank ls) → Drafted ls draft
 drafted ls draft e =
     record {
-      initial = ap (λ d. d.initial) e;
+      initial = ap (λ d. d.initial) e ∙ started_frame ls;
       clear = ap (λ d. d.clear) e ∙ joined_parts (each guard_words ls) (each reset_words ls) (each set_words ls);
       enter = ap (λ d. d.enter) e;
       hold = ap (λ d. d.hold) e;

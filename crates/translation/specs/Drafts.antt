@@ -1,11 +1,12 @@
 -- What a draft holds, line by line. Assumes nothing.
-use Rattle.std.specs.Prelude.{◌≡◌, ℕ, List, Ok, Err, Result}
+use Rattle.std.specs.Prelude.{◌≡◌, ℕ, true, false, List, [], ◌∷◌, Ok, Err, Result}
 use Rattle.faults.specs.declared.TextFault.{TextFault}
+use Rattle.frames.specs.Bits.{on}
 use Rattle.words.specs.Emitted.{Kept, kept_in, nothing, pushed, joined}
-use Rattle.lines.specs.Grammar.{Tree}
+use Rattle.lines.specs.Grammar.{Tree, empty, step, trans, hold, enter}
 use Rattle.lines.specs.Guards.{guard_words}
 use Rattle.translation.specs.declared.draft.Draft.{Draft}
-use Rattle.translation.specs.Translation.{each, started, started_all, initial_frame, reset_words, set_words, enter_words, hold_words, clear_part, enter_part, hold_part}
+use Rattle.translation.specs.Translation.{each, initial_frame, reset_words, set_words, enter_words, hold_words, clear_part, enter_part, hold_part}
 
 -- the initial steps, and what is kept of each list
 pub record Sketch : Type 0 where
@@ -16,6 +17,7 @@ pub record Sketch : Type 0 where
   pub enter : Kept
   pub hold : Kept
 
+-- what this draft holds
 abbrev pub sketch_of : Draft → Sketch
 sketch_of d =
     record {
@@ -27,6 +29,7 @@ sketch_of d =
       hold = kept_in d.hold;
     }
 
+-- no initial steps and no words
 abbrev pub blank : Sketch
 blank = record { initial = 0; clear = nothing; resets = nothing; sets = nothing; enter = nothing; hold = nothing }
 
@@ -41,6 +44,20 @@ closed d =
       enter = d.enter;
       hold = d.hold;
     }
+
+-- the frame with a line more: the bit of its step on, if the step is initial
+abbrev pub started : ℕ → Tree → ℕ
+started x empty = x
+started x (step n true) = on x n.value
+started x (step n false) = x
+started x (trans n fs ts c us) = x
+started x (hold n q) = x
+started x (enter n a q) = x
+
+-- the frame with the lines of a text more
+abbrev pub started_all : ℕ → List Tree → ℕ
+started_all x [] = x
+started_all x (l ∷ ls) = started_all (started x l) ls
 
 -- with a line more, but for the words that test its transition
 abbrev pub noted : Sketch → Tree → Sketch

@@ -8,6 +8,7 @@ use Rattle.words.specs.Brackets.{sound}
 use Rattle.lines.specs.Grammar.{Tree, FitsLine}
 use Rattle.translation.specs.Translation.{clear_part, enter_part, hold_part}
 
+-- each line fits
 abbrev pub AllFit : List Tree → Type 0
 AllFit [] = Unit {0}
 AllFit (l ∷ ls) = FitsLine l × AllFit ls
@@ -17,10 +18,8 @@ pub record Sound (p : Part) (is : List Instruction) : Type 0 where
   pub words : sound p 0 (map word_of is) ≡ true
   pub back : map instruction_of (map word_of is) ≡ is
 
+-- the three parts of the lines are sound
 pub record SoundParts (ls : List Tree) : Type 0 where
   pub clear : Sound part.Clear (clear_part ls)
   pub enter : Sound part.Enter (enter_part ls)
   pub hold : Sound part.Hold (hold_part ls)
-
-abbrev pub PartsSound : Type 0
-PartsSound = (ls : List Tree) → AllFit ls → SoundParts ls

@@ -1,11 +1,12 @@
 -- The instructions of a chart's parts, by its lines in the order of the text. Assumes nothing.
-use Rattle.std.specs.Prelude.{ℕ, true, false, List, [], ◌∷◌, ◌++◌, map}
+use Rattle.std.specs.Prelude.{ℕ, Bool, false, ◌&&◌, ◌==◌, List, [], ◌∷◌, ◌++◌, map}
+use Rattle.std.specs.List.{list_any}
 use Rattle.words.specs.declared.instruction.Operand.TheVariants as operand
 use Rattle.words.specs.declared.instruction.Target.{Target}
 use Rattle.words.specs.declared.instruction.Target.TheVariants as target
 use Rattle.words.specs.declared.instruction.Instruction.{Instruction}
 use Rattle.words.specs.declared.instruction.Instruction.TheVariants.{Load, AndNot, Set, Reset, Hold}
-use Rattle.frames.specs.Bits.{on}
+use Rattle.frames.specs.Bits.{pack}
 use Rattle.lines.specs.declared.shape.Number.{Number}
 use Rattle.lines.specs.declared.shape.Action.{Action}
 use Rattle.lines.specs.declared.shape.Action.TheVariants as action
@@ -46,6 +47,7 @@ set_words (enter n a q) = []
 abbrev pub newly : ℕ → Action → ℕ → List Instruction
 newly n a q = Load (operand.Step n) ∷ AndNot (operand.Before n) ∷ switch a (target.Output q) ∷ []
 
+-- the words of an enter line
 abbrev pub enter_words : Tree → List Instruction
 enter_words empty = []
 enter_words (step n b) = []
@@ -57,6 +59,7 @@ enter_words (enter n a q) = newly n.value a q.value
 abbrev pub held : ℕ → ℕ → List Instruction
 held n q = Load (operand.Step n) ∷ Hold q ∷ []
 
+-- the words of a hold line
 abbrev pub hold_words : Tree → List Instruction
 hold_words empty = []
 hold_words (step n b) = []
@@ -68,25 +71,22 @@ hold_words (enter n a q) = []
 abbrev pub clear_part : List Tree → List Instruction
 clear_part ls = each guard_words ls ++ (each reset_words ls ++ each set_words ls)
 
+-- the words of the enter lines
 abbrev pub enter_part : List Tree → List Instruction
 enter_part ls = each enter_words ls
 
+-- the words of the hold lines
 abbrev pub hold_part : List Tree → List Instruction
 hold_part ls = each hold_words ls
 
--- the frame, with the bit of the line's step on if the step is initial
-abbrev pub started : ℕ → Tree → ℕ
-started x empty = x
-started x (step n true) = on x n.value
-started x (step n false) = x
-started x (trans n fs ts c us) = x
-started x (hold n q) = x
-started x (enter n a q) = x
+-- whether the line makes step n initial
+abbrev pub makes_initial : ℕ → Tree → Bool
+makes_initial n empty = false
+makes_initial n (step m b) = b && n == m.value
+makes_initial n (trans m fs ts c us) = false
+makes_initial n (hold m q) = false
+makes_initial n (enter m a q) = false
 
-abbrev pub started_all : ℕ → List Tree → ℕ
-started_all x [] = x
-started_all x (l ∷ ls) = started_all (started x l) ls
-
--- the bits of the initial steps
-abbrev pub initial_frame : List Tree → ℕ
-initial_frame ls = started_all 0 ls
+-- the frame whose bit n is on exactly if one of the lines makes step n initial
+unfoldable pub initial_frame : List Tree → ℕ
+initial_frame ls = pack 64 (λ n. list_any (makes_initial n) ls)

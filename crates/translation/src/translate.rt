@@ -3,9 +3,8 @@ ghost use Rattle.std.specs.Prelude.{◌≡◌, List, IfOk, Ok};
 ghost use Rattle.lines.specs.Grammar.{Tree, step as stepLine};
 ghost use Rattle.lines.specs.Parts.{Shows};
 ghost use Rattle.lines.specs.Next.{lines_left};
-ghost use Rattle.translation.specs.Translation.{started};
 ghost use Rattle.translation.specs.Soundness.{SoundParts};
-ghost use Rattle.translation.specs.Drafts.{sketch_of, blank, noted, closed, Reads, Translated};
+ghost use Rattle.translation.specs.Drafts.{sketch_of, blank, started, noted, closed, Reads, Translated};
 
 use crate::draft::Draft;
 use crate::emit::{emit_all, emit_switches, entering, holding};

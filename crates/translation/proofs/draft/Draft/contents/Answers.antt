@@ -1,6 +1,6 @@
 use Rattle.words.specs.Emitted.{kept_in}
 use Rattle.translation.specs.Translation.{clear_part, enter_part, hold_part}
-use Rattle.translation.proofs.Limiting.{kept_whole, clear_over, enter_over, hold_over}
+use Rattle.translation.proofs.Limiting.{kept_whole, clear_over, enter_over, hold_over, longest_fits}
 use Rattle.translation.proofs.draft.Draft.contents.Goals as goal
 
 pub returns-in_err-clear : goal.returns-in_err-clear
@@ -17,10 +17,7 @@ returns c = λ ls d.
     let s = c.args.self.now in
     let clear = kept_whole (kept_in s.clear) (clear_part ls) _ d.clear c.in_ok-clear.ensures in
     let enter = kept_whole (kept_in s.enter) (enter_part ls) _ d.enter c.in_ok-enter.ensures in
-    let hold = kept_whole (kept_in s.hold) (hold_part ls) _ d.hold c.in_ok-hold.ensures in
-    record {
-      initial = d.initial;
-      clear = clear.words;
-      enter = enter.words;
-      hold = hold.words;
-    }
+    let hold = kept_whole (kept_in s.hold) (hold_part ls) _ d.hold c.in_ok-hold.ensures in (
+      record { initial = d.initial; clear = clear.words; enter = enter.words; hold = hold.words },
+      longest_fits ls clear.few enter.few hold.few,
+    )
