@@ -4,6 +4,7 @@ ghost use Rattle.codefile.specs.File.{le32, pair_at, directory_of, follows, brok
 
 use crate::parts::Parts;
 use faults::{FileFault, Section};
+use words::list::MOST_WORDS;
 
 /// One entry of the directory.
 #[derive(Clone, Copy, PartialEq, Eq, Debug)]
@@ -105,7 +106,7 @@ pub(crate) fn layout_of(bytes: &[u8]) -> Result<Parts<usize>, FileFault>
     let clear = d.clear.length as usize;
     let enter = d.enter.length as usize;
     let hold = d.hold.length as usize;
-    if (clear + enter + hold) / 4 > 4096 {
+    if (clear + enter + hold) / 4 > MOST_WORDS {
         return Err(FileFault::TooManyWords);
     }
     Ok(Parts { clear, enter, hold })

@@ -3,6 +3,7 @@ ghost use Rattle.std.specs.Prelude.{◌≡◌, ◌+◌, ◌*◌, ◌<◌, ◌≤
 ghost use Rattle.codefile.specs.Written.{bytes32, word_bytes, pair_bytes, directory_bytes, section_at, directory_for, head_bytes, file_of, word_count, written, answered, buffer_after, over, code_for, LoadsBack};
 
 use crate::directory::{Directory, Pair};
+use words::list::MOST_WORDS;
 
 /// What a code file is to hold: the steps that are active first, bit n for step n, and the words of each part.
 // Not a `Parts` beside the steps: callers write these fields out.
@@ -77,7 +78,7 @@ fn put_head(buffer: &mut [u8], d: Directory, initial: u64)
 
 // The section of these words, at an offset.
 fn section(offset: u32, words: &[u32]) -> Pair
-    requires { length words.now ≤ 4096 }
+    requires { length words.now ≤ MOST_WORDS }
     ensures { result ≡ section_at offset (4 * length words.now) }
 {
     let length = 4 * words.len() as u32;
@@ -93,9 +94,9 @@ struct Fitting<'a> {
 
 impl<'a> Fitting<'a> {
     fn new(contents: Contents<'a>) -> Option<Fitting<'a>>
-        ensures { MatchOption result (4096 < word_count (code_for contents.entry)) (λ f. f.contents ≡ contents.entry) }
+        ensures { MatchOption result (MOST_WORDS < word_count (code_for contents.entry)) (λ f. f.contents ≡ contents.entry) }
     {
-        if contents.clear.len() + contents.enter.len() + contents.hold.len() > 4096 {
+        if contents.clear.len() + contents.enter.len() + contents.hold.len() > MOST_WORDS {
             return None;
         }
         Some(Fitting { contents })
