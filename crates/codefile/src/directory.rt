@@ -68,8 +68,7 @@ fn does_follow(before: Pair, pair: Pair) -> bool
         && pair.length % 4 == 0
 }
 
-// The first section whose pair breaks a rule, in a file of this size. An Option: the answer is the section, and the caller
-// makes the fault of it.
+// The first section whose pair breaks a rule, in a file of this size.
 fn broken_pair(d: Directory, size: usize) -> Option<Section>
     ensures { result ≡ broken_pair d size }
 {

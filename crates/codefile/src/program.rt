@@ -8,7 +8,6 @@ use words::list::MOST_WORDS;
 
 /// Each word is lawful in its part, each part's brackets balance with at most 17 open, and each part has room for any
 /// file's words.
-// Not a `Parts`: each field has an invariant that names its part.
 #[derive(Drop)]
 pub struct Program {
     pub(crate) initial: u64,

@@ -6,7 +6,6 @@ use crate::directory::{Directory, Pair};
 use words::list::MOST_WORDS;
 
 /// What a code file is to hold: the steps that are active first, bit n for step n, and the words of each part.
-// Not a `Parts` beside the steps: callers write these fields out.
 #[derive(Clone, Copy, PartialEq, Eq, Debug)]
 pub struct Contents<'a> {
     pub initial: u64,
@@ -22,8 +21,7 @@ pub enum WriteFault {
     BufferTooShort(usize),
 }
 
-// The functions that put something take the buffer and a place in it. Parts of the buffer, handed on one by one, read no
-// plainer, since each place is a sum that the format gives.
+// Each of the functions `put_..` writes at a place in the buffer where there is room.
 fn put_bytes(buffer: &mut [u8], at: usize, bytes: &[u8])
     requires { at + length bytes.now ≤ length buffer.old }
     ensures { buffer.new ≡ over at bytes.now buffer.old }
@@ -85,7 +83,7 @@ fn section(offset: u32, words: &[u32]) -> Pair
     Pair { offset, length }
 }
 
-// Contents of at most 4,096 words, which a code file can hold.
+// Contents that a code file can hold: at most `MOST_WORDS` words.
 #[derive(Clone, Copy, PartialEq, Eq, Debug)]
 struct Fitting<'a> {
     contents: Contents<'a>,
@@ -145,7 +143,6 @@ impl<'a> Fitting<'a> {
 
 /// Writes a code file at the beginning of the buffer and answers its length; the rest of the buffer stays as it was.
 /// Refused, it leaves all of the buffer.
-// The buffer is the caller's and a length stands beside it: no memory is asked for here.
 pub fn write(contents: Contents<'_>, buffer: &mut [u8]) -> Result<usize, WriteFault>
     ensures answer { result ≡ answered (written (code_for contents.entry) (length buffer.old)) }
     ensures buffer { buffer.new ≡ buffer_after (written (code_for contents.entry) (length buffer.old)) buffer.old }
