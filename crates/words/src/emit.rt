@@ -26,6 +26,7 @@ impl WordList {
     }
 
     /// Puts the instruction's word behind the others, or notes that there was no room for it.
+    #[tactic(auto, using(crate::proofs::Emitting::push_first_of), unfolding(crate::specs::Emitted::pushed))]
     pub fn push(&mut self, instruction: Instruction)
         ensures step { kept_in self.new ≡ pushed (kept_in self.old) (instruction ∷ []) }
         ensures first { (ws : List ℕ) → Holds self.old ws → Holds self.new (ws ++ word_of instruction ∷ []) }
@@ -43,6 +44,7 @@ impl WordList {
     }
 
     /// Puts the words of another list behind the others, as far as there is room for them.
+    #[tactic(auto, using(std::proofs::lemmas::Grind::common_steps, crate::proofs::Emitting::joined_first))]
     pub fn append(&mut self, list: &WordList)
         ensures step { kept_in self.new ≡ joined (kept_in self.old) (kept_in list.now) }
         ensures first { (ws vs : List ℕ) → Holds self.old ws → Holds list.now vs → Holds self.new (ws ++ vs) }
