@@ -4,6 +4,7 @@ ghost use Rattle.codefile.specs.File.{le32, pair_at, directory_of, follows, brok
 
 use crate::parts::Parts;
 use faults::{FileFault, Section};
+use words::list::MOST_WORDS;
 
 /// One entry of the directory.
 #[derive(Clone, Copy, PartialEq, Eq, Debug)]
@@ -67,8 +68,7 @@ fn does_follow(before: Pair, pair: Pair) -> bool
         && pair.length % 4 == 0
 }
 
-// The first section whose pair breaks a rule, in a file of this size. An Option: the answer is the section, and the caller
-// makes the fault of it.
+// The first section whose pair breaks a rule, in a file of this size.
 fn broken_pair(d: Directory, size: usize) -> Option<Section>
     ensures { result ≡ broken_pair d size }
 {
@@ -105,7 +105,7 @@ pub(crate) fn layout_of(bytes: &[u8]) -> Result<Parts<usize>, FileFault>
     let clear = d.clear.length as usize;
     let enter = d.enter.length as usize;
     let hold = d.hold.length as usize;
-    if (clear + enter + hold) / 4 > 4096 {
+    if (clear + enter + hold) / 4 > MOST_WORDS {
         return Err(FileFault::TooManyWords);
     }
     Ok(Parts { clear, enter, hold })

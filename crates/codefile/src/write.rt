@@ -3,9 +3,9 @@ ghost use Rattle.std.specs.Prelude.{◌≡◌, ◌+◌, ◌*◌, ◌<◌, ◌≤
 ghost use Rattle.codefile.specs.Written.{bytes32, word_bytes, pair_bytes, directory_bytes, section_at, directory_for, head_bytes, file_of, word_count, written, answered, buffer_after, over, code_for, LoadsBack};
 
 use crate::directory::{Directory, Pair};
+use words::list::MOST_WORDS;
 
 /// What a code file is to hold: the steps that are active first, bit n for step n, and the words of each part.
-// Not a `Parts` beside the steps: callers write these fields out.
 #[derive(Clone, Copy, PartialEq, Eq, Debug)]
 pub struct Contents<'a> {
     pub initial: u64,
@@ -21,8 +21,7 @@ pub enum WriteFault {
     BufferTooShort(usize),
 }
 
-// The functions that put something take the buffer and a place in it. Parts of the buffer, handed on one by one, read no
-// plainer, since each place is a sum that the format gives.
+// Each of the functions `put_..` writes at a place in the buffer where there is room.
 fn put_bytes(buffer: &mut [u8], at: usize, bytes: &[u8])
     requires { at + length bytes.now ≤ length buffer.old }
     ensures { buffer.new ≡ over at bytes.now buffer.old }
@@ -77,14 +76,14 @@ fn put_head(buffer: &mut [u8], d: Directory, initial: u64)
 
 // The section of these words, at an offset.
 fn section(offset: u32, words: &[u32]) -> Pair
-    requires { length words.now ≤ 4096 }
+    requires { length words.now ≤ MOST_WORDS }
     ensures { result ≡ section_at offset (4 * length words.now) }
 {
     let length = 4 * words.len() as u32;
     Pair { offset, length }
 }
 
-// Contents of at most 4,096 words, which a code file can hold.
+// Contents that a code file can hold: at most `MOST_WORDS` words.
 #[derive(Clone, Copy, PartialEq, Eq, Debug)]
 struct Fitting<'a> {
     contents: Contents<'a>,
@@ -93,9 +92,9 @@ struct Fitting<'a> {
 
 impl<'a> Fitting<'a> {
     fn new(contents: Contents<'a>) -> Option<Fitting<'a>>
-        ensures { MatchOption result (4096 < word_count (code_for contents.entry)) (λ f. f.contents ≡ contents.entry) }
+        ensures { MatchOption result (MOST_WORDS < word_count (code_for contents.entry)) (λ f. f.contents ≡ contents.entry) }
     {
-        if contents.clear.len() + contents.enter.len() + contents.hold.len() > 4096 {
+        if contents.clear.len() + contents.enter.len() + contents.hold.len() > MOST_WORDS {
             return None;
         }
         Some(Fitting { contents })
@@ -144,7 +143,6 @@ impl<'a> Fitting<'a> {
 
 /// Writes a code file at the beginning of the buffer and answers its length; the rest of the buffer stays as it was.
 /// Refused, it leaves all of the buffer.
-// The buffer is the caller's and a length stands beside it: no memory is asked for here.
 pub fn write(contents: Contents<'_>, buffer: &mut [u8]) -> Result<usize, WriteFault>
     ensures answer { result ≡ answered (written (code_for contents.entry) (length buffer.old)) }
     ensures buffer { buffer.new ≡ buffer_after (written (code_for contents.entry) (length buffer.old)) buffer.old }

@@ -40,9 +40,12 @@ push_first n us w =
     (sym (lt-ltb n (length (us ++ (w ∷ []))) (omega arith))))
     (cases_lt (length us) n)
 
+pub push_first_of : (us : List ℕ) (w : ℕ) → push (first_of us) w ≡ first_of (us ++ (w ∷ []))
+push_first_of us w = push_first 4096 us w
+
 appended_first : (us vs : List ℕ) → appended (first_of us) vs ≡ first_of (us ++ vs)
 appended_first us [] = ap first_of (sym (append-nil us))
-appended_first us (v ∷ vs) = ap (λ k. appended k vs) (push_first 4096 us v) ∙ appended_first (us ++ (v ∷ [])) vs ∙ ap first_of (append_assoc us (v ∷ []) vs)
+appended_first us (v ∷ vs) = ap (λ k. appended k vs) (push_first_of us v) ∙ appended_first (us ++ (v ∷ [])) vs ∙ ap first_of (append_assoc us (v ∷ []) vs)
 
 -- what is emitted to an empty list
 pub pushed_first : (xs : List Instruction) → pushed nothing xs ≡ first_of (map word_of xs)
@@ -57,7 +60,7 @@ take_short (suc n) m (u ∷ us) vs h = ap (λ ws. u ∷ ws) (take_short n m us v
 more_of_both : (n a b c : ℕ) → c ≡ a + min n b → (ltb n c || ltb n b) ≡ ltb n (a + b)
 more_of_both n a b c e = grind (arith, nat_tests)
 
-joined_first : (us vs : List ℕ) → joined (first_of us) (first_of vs) ≡ first_of (us ++ vs)
+pub joined_first : (us vs : List ℕ) → joined (first_of us) (first_of vs) ≡ first_of (us ++ vs)
 joined_first us vs =
     let e = appended_first us (take 4096 vs) in
     let short : length (us ++ take 4096 vs) ≡ length us + min 4096 (length vs) = length-append us (take 4096 vs) ∙ ap (λ k. length us + k) (length-take 4096 vs) in

@@ -1,8 +1,8 @@
 -- Instructions and lawful words, one to one. Assumes nothing.
-use Rattle.std.proofs.Common.{◌≡◌, ℕ, ◌%◌, ◌<◌, true, ◌&&◌, ◌||◌, eqb, ltb, leb, Some, sym, refl, ap, ◌∙◌, subst, ⊎_elim, arith, lit<, below_none, below_more}
+use Rattle.std.proofs.Common.{◌≡◌, ℕ, ◌%◌, ◌<◌, true, ◌&&◌, ◌||◌, eqb, ltb, leb, Bool, false, cond, Some, None, sym, refl, ap, ◌∙◌, subst, ⊎_elim, arith, lit<, below_none, below_more}
 use Rattle.std.proofs.lemmas.Bool.{and_parts, and_from, or_cases, not-true, not_from_false, eq-eqb, eqb-true, ltb-true, leb-true, lt-ltb, cond-true, cond-false, cases_Bool, false≢true}
 use Rattle.std.proofs.lemmas.Bool.Decides.{nat_tests}
-use Rattle.std.proofs.lemmas.Option.{cond_some}
+use Rattle.std.proofs.lemmas.Option.{cond_some, none-some}
 use Rattle.words.specs.declared.instruction.Part.{Part}
 use Rattle.words.specs.declared.instruction.Operand.{Operand}
 use Rattle.words.specs.declared.instruction.Operand.TheVariants.{Input, Step, Output, Rise, Fall, Always, Cleared, Before}
@@ -205,3 +205,17 @@ written_back p w h =
 
 pub encodes_back : (p : Part) (w : ℕ) (i : Instruction) → decoded p w ≡ Some i → encoded p i ≡ Some w
 encodes_back p w i e = let was = cond_some (lawful p w) (instruction_of w) i e in ap (encoded p) (sym was.1) ∙ written_back p w was.0
+
+-- a word that is decoded is lawful, and is the instruction's word; one that is not decoded is not lawful
+pub decoded_word : (p : Part) (w : ℕ) (i : Instruction) → decoded p w ≡ Some i → (lawful p w ≡ true) × (word_of i ≡ w)
+decoded_word p w i e =
+    let was = cond_some (lawful p w) (instruction_of w) i e in
+    let back = cond_some (admitted p i) (word_of i) w (encodes_back p w i e) in
+    (was.0, back.1)
+
+pub not_decoded : (p : Part) (w : ℕ) → decoded p w ≡ None → lawful p w ≡ false
+not_decoded p w = none (lawful p w)
+  where
+    none : (b : Bool) → cond b (Some (instruction_of w)) None ≡ None → b ≡ false
+    none true e = absurd (none-some (instruction_of w) (sym e))
+    none false e = refl

@@ -1,5 +1,5 @@
 -- Words as they are emitted, one behind the other: the first 4,096 are kept. Assumes nothing.
-use Rattle.std.specs.Prelude.{ℕ, Bool, true, false, ◌||◌, List, [], ◌∷◌, ◌++◌, length, take, fold, nat_lt, if◌then◌else◌}
+use Rattle.std.specs.Prelude.{◌≡◌, ℕ, Bool, true, false, ◌||◌, List, [], ◌∷◌, ◌++◌, length, take, fold, nat_lt, if◌then◌else◌}
 use Rattle.words.specs.declared.instruction.Instruction.{Instruction}
 use Rattle.words.specs.declared.list.WordList.{WordList}
 use Rattle.words.specs.Words.{word_of}
@@ -12,9 +12,18 @@ pub record Kept : Type 0 where
 abbrev pub nothing : Kept
 nothing = record { words = []; more = false }
 
+-- of so many words the first 4,096
+abbrev pub first_of : List ℕ → Kept
+first_of ws = record { words = take 4096 ws; more = nat_lt 4096 (length ws) }
+
 abbrev pub kept_in : WordList → Kept
 kept_in l = record { words = l.words; more = l.more }
 
+-- the list holds the first 4,096 of these words, and says whether there are more
+abbrev pub Holds : WordList → List ℕ → Type 0
+Holds l ws = kept_in l ≡ first_of ws
+
+-- ---- step by step
 abbrev pub push : Kept → ℕ → Kept
 push k w =
     if nat_lt (length k.words) 4096 then record { words = k.words ++ w ∷ []; more = k.more }
@@ -32,7 +41,3 @@ appended k ws = fold push k ws
 -- what a second list keeps, behind what the first does
 abbrev pub joined : Kept → Kept → Kept
 joined k l = record { words = (appended k l.words).words; more = (appended k l.words).more || l.more }
-
--- of so many words the first 4,096
-abbrev pub first_of : List ℕ → Kept
-first_of ws = record { words = take 4096 ws; more = nat_lt 4096 (length ws) }

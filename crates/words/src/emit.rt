@@ -1,6 +1,7 @@
 //! Emitting instructions to a word list.
-ghost use Rattle.std.specs.Prelude.{◌≡◌, [], ◌∷◌, IfOk};
-ghost use Rattle.words.specs.Emitted.{kept_in, push as put, pushed, joined, nothing};
+ghost use Rattle.std.specs.Prelude.{◌≡◌, ℕ, List, [], ◌∷◌, ◌++◌, IfOk};
+ghost use Rattle.words.specs.Words.{word_of};
+ghost use Rattle.words.specs.Emitted.{kept_in, push as put, pushed, joined, Holds};
 
 use crate::instruction::Instruction;
 use crate::list::WordList;
@@ -10,7 +11,7 @@ use std::alloc::{AllocError, Global};
 impl WordList {
     /// An empty list, with room for 4,096 words.
     pub fn new(heap: Global) -> Result<WordList, AllocError>
-        ensures { IfOk result (λ l. kept_in l ≡ nothing) }
+        ensures { IfOk result (λ l. Holds l []) }
     {
         let words = Reserved::new(heap)?;
         Ok(WordList { words, more: false })
@@ -18,15 +19,17 @@ impl WordList {
 
     /// Empties the list.
     pub fn clear(&mut self)
-        ensures { kept_in self.new ≡ nothing }
+        ensures { Holds self.new [] }
     {
         self.words.clear();
         self.more = false;
     }
 
     /// Puts the instruction's word behind the others, or notes that there was no room for it.
+    #[tactic(auto, using(crate::proofs::Emitting::push_first_of), unfolding(crate::specs::Emitted::pushed))]
     pub fn push(&mut self, instruction: Instruction)
-        ensures { kept_in self.new ≡ pushed (kept_in self.old) (instruction ∷ []) }
+        ensures step { kept_in self.new ≡ pushed (kept_in self.old) (instruction ∷ []) }
+        ensures first { (ws : List ℕ) → Holds self.old ws → Holds self.new (ws ++ word_of instruction ∷ []) }
     {
         self.put(instruction.word());
     }
@@ -41,8 +44,10 @@ impl WordList {
     }
 
     /// Puts the words of another list behind the others, as far as there is room for them.
+    #[tactic(auto, using(std::proofs::lemmas::Grind::common_steps, crate::proofs::Emitting::joined_first))]
     pub fn append(&mut self, list: &WordList)
-        ensures { kept_in self.new ≡ joined (kept_in self.old) (kept_in list.now) }
+        ensures step { kept_in self.new ≡ joined (kept_in self.old) (kept_in list.now) }
+        ensures first { (ws vs : List ℕ) → Holds self.old ws → Holds list.now vs → Holds self.new (ws ++ vs) }
     {
         for word in list.words() {
             self.put(*word);

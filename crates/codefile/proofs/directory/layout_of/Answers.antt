@@ -11,8 +11,8 @@ pub returns-in-Some-broken_pair-clause-layout : goal.returns-in-Some-broken_pair
 returns-in-Some-broken_pair-clause-layout c =
     let head = c.in-Some.ensures.cases in rw (head_reads c.args.bytes.now c.in-Some.head.now head.enough head.same) (search rules)
 
-pub returns-then-clear-enter-gt4096-clause-layout : goal.returns-then-clear-enter-gt4096-clause-layout
-returns-then-clear-enter-gt4096-clause-layout c =
+pub returns-then-clear-enter-gt-MOST_WORDS-clause-layout : goal.returns-then-clear-enter-gt-MOST_WORDS-clause-layout
+returns-then-clear-enter-gt-MOST_WORDS-clause-layout c =
     let head = c.in-Some.ensures.cases in rw (head_reads c.args.bytes.now c.in-Some.head.now head.enough head.same) (search rules)
 
 pub returns : goal.returns

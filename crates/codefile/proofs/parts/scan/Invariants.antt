@@ -7,7 +7,7 @@ use Rattle.codefile.proofs.parts.scan.Given as goal
 abbrev pub invariant-loop-left : goal.invariant-loop-left
 invariant-loop-left l =
     (length l.left ≤ length l.bytes) ×
-    (scanned l.part (l.start + (length l.bytes - length l.left)) l.owed l.depth (words_of l.left) ≡ scanned l.part l.start l.before 0 (words_of l.bytes))
+    (scanned l.part (l.start + (length l.bytes - length l.left)) l.owed l.depth (words_of l.left) ≡ scanned l.part l.start l.open_before 0 (words_of l.bytes))
 
 abbrev pub decreases-loop-left : goal.decreases-loop-left
 decreases-loop-left l = length l.left
