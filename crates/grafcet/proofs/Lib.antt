@@ -1,3 +1,4 @@
 pub mod Lawful
 pub mod Lines
+pub mod Positions
 pub mod Texts
