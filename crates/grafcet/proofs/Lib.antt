@@ -1,3 +1,4 @@
+pub mod Excerpts
 pub mod Lawful
 pub mod Lines
 pub mod Positions

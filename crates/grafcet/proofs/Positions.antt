@@ -1,5 +1,6 @@
 -- Lines and columns, byte by byte. Assumes nothing.
-use Rattle.std.proofs.Common.{◌≡◌, ℕ, ◌+◌, ◌-◌, Bool, true, false, cond, not, List, [], ◌∷◌, ◌++◌, length, fold, refl, sym, ap, ◌∙◌, arith, append_assoc}
+use Rattle.std.proofs.Common.{◌≡◌, ℕ, ◌+◌, ◌-◌, Bool, true, false, cond, not, refl, sym, ap, ◌∙◌, arith}
+use Rattle.std.proofs.Common.{List, [], ◌∷◌, ◌++◌, length, fold, append_assoc}
 use Rattle.std.specs.List.{prefix_len, suffix_len, after_last}
 use Rattle.std.proofs.lemmas.List.{append-nil, reverse-append, length-drop}
 use Rattle.std.proofs.lemmas.List.Sums.{sum_by_push, suffix_len-le-length}
@@ -8,18 +9,22 @@ use Rattle.grafcet.specs.Positions.{is_line_end, position_behind}
 
 -- the position behind one byte more
 abbrev pub behind : Position → ℕ → Position
-behind p b = cond (is_line_end b) (record { line = p.line + 1; column = 1 }) (record { line = p.line; column = p.column + 1 })
+behind p b =
+    cond (is_line_end b) (record { line = p.line + 1; column = 1 }) (record { line = p.line; column = p.column + 1 })
 
 -- the bytes of the last line, counted from the end of the text
-pub length-after_last : {X : Type 0} (p : X → Bool) (xs : List X) → length (after_last p xs) ≡ suffix_len (λ x. not (p x)) xs
+pub length-after_last : {X : Type 0} (p : X → Bool) (xs : List X)
+    → length (after_last p xs) ≡ suffix_len (λ x. not (p x)) xs
 length-after_last p xs =
-    omega (arith, length-drop (length xs - suffix_len (λ x. not (p x)) xs) xs, suffix_len-le-length (λ x. not (p x)) xs)
+    let n = suffix_len (λ x. not (p x)) xs in
+    omega (arith, length-drop (length xs - n) xs, suffix_len-le-length (λ x. not (p x)) xs)
 
 chosen : (t : Bool) (n : ℕ) → cond (not t) (1 + n) 0 ≡ cond t 0 (1 + n)
 chosen true n = refl
 chosen false n = refl
 
-last_line_push : (bs : List ℕ) (b : ℕ) → length (after_last is_line_end (bs ++ b ∷ [])) ≡ cond (is_line_end b) 0 (1 + length (after_last is_line_end bs))
+last_line_push : (bs : List ℕ) (b : ℕ)
+    → length (after_last is_line_end (bs ++ b ∷ [])) ≡ cond (is_line_end b) 0 (1 + length (after_last is_line_end bs))
 last_line_push bs b =
     length-after_last is_line_end (bs ++ b ∷ [])
     ∙ ap (prefix_len (λ (x : ℕ). not (is_line_end x))) (reverse-append bs (b ∷ []))
@@ -45,7 +50,9 @@ position_behind_push bs b =
 fold_from : (xs ys : List ℕ) → fold behind (position_behind xs) ys ≡ position_behind (xs ++ ys)
 fold_from xs [] = ap position_behind (sym (append-nil xs))
 fold_from xs (y ∷ ys) =
-    ap (λ p. fold behind p ys) (sym (position_behind_push xs y)) ∙ fold_from (xs ++ y ∷ []) ys ∙ ap position_behind (append_assoc xs (y ∷ []) ys)
+    ap (λ p. fold behind p ys) (sym (position_behind_push xs y))
+    ∙ fold_from (xs ++ y ∷ []) ys
+    ∙ ap position_behind (append_assoc xs (y ∷ []) ys)
 
 pub fold-behind : (bs : List ℕ) → fold behind (record { line = 1; column = 1 }) bs ≡ position_behind bs
 fold-behind bs = fold_from [] bs
