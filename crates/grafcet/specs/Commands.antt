@@ -16,6 +16,7 @@ Silent texts word n = length texts ≡ 2 + n → text texts 1 ≢ word
 
 abbrev pub Asks : List (List ℕ) → Option Command → Type 0
 Asks texts (Some Demo) = length texts ≤ 1
-Asks texts (Some (Compile chart out)) = Says texts (codes "compile") 2 × (chart.now ≡ text texts 2) × (out.now ≡ text texts 3)
+Asks texts (Some (Compile chart out)) =
+    Says texts (codes "compile") 2 × (chart.now ≡ text texts 2) × (out.now ≡ text texts 3)
 Asks texts (Some (Load path)) = Says texts (codes "load") 1 × (path.now ≡ text texts 2)
 Asks texts None = (1 < length texts) × Silent texts (codes "compile") 2 × Silent texts (codes "load") 1

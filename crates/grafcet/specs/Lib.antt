@@ -1,3 +1,4 @@
 pub mod Commands
 pub mod Damages
+pub mod Excerpts
 pub mod Positions

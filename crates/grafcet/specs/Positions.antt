@@ -1,10 +1,19 @@
 -- Where a place stands in a text, by line and column. Assumes nothing.
-use Rattle.std.specs.Prelude.{ℕ, ◌+◌, cond, List, take, fold, ◌==◌}
+use Rattle.std.specs.Prelude.{ℕ, ◌+◌, ◌==◌, Bool, List, length, take, count_by}
+use Rattle.std.specs.List.{after_last}
 use Rattle.grafcet.specs.declared.position.Position.{Position}
 
--- byte 10 begins a new line, every other byte a new column
-abbrev pub behind : Position → ℕ → Position
-behind p b = cond (b == 10) (record { line = p.line + 1; column = 1 }) (record { line = p.line; column = p.column + 1 })
+-- byte 10 ends a line
+abbrev pub is_line_end : ℕ → Bool
+is_line_end byte = byte == 10
 
+-- behind these bytes the line is 1 and their line ends, the column 1 and the bytes behind the last line end
+abbrev pub position_behind : List ℕ → Position
+position_behind bytes = record {
+  line = 1 + count_by is_line_end bytes;
+  column = 1 + length (after_last is_line_end bytes);
+}
+
+-- the position of the byte at a place, or of the text's end
 abbrev pub position_at : List ℕ → ℕ → Position
-position_at text place = fold behind (record { line = 1; column = 1 }) (take place text)
+position_at text place = position_behind (take place text)

@@ -1,5 +1,4 @@
-//! What is wrong, in plain words: fixed texts, by a match. No `Display`: `{}` of a fault writes its layer, number and place,
-//! and these words are the program's own.
+//! What is wrong, in plain words; `{}` of a fault writes its layer, number and place.
 use faults::{ChartFault, CodeFault, ControllerFault, Fault, FileFault, Section, TextFault};
 
 fn text_cause(fault: TextFault) -> &'static str {

@@ -12,7 +12,7 @@ use std::alloc::AllocError;
 use std::{fs, io};
 
 /// The length of the longest code file: 44 bytes and 4,096 words.
-pub const LONGEST: usize = 16428;
+pub const LONGEST_FILE: usize = 16428;
 
 // The number of words in a code file of this length: 44 bytes stand before them, and each has four.
 fn words_in(length: usize) -> usize
@@ -39,7 +39,7 @@ fn report(rt: &HostRuntime, path: &str, text: &[u8], fault: Fault) -> Result<(),
 pub fn run(rt: &HostRuntime, chart: &str, out: &str) -> Result<(), Failure> {
     let text = read_file(rt, chart)?;
     let mut compiler = Compiler::new(rt.alloc())?;
-    let mut buffer = vec![in rt.alloc(); 0u8; LONGEST]?;
+    let mut buffer = vec![in rt.alloc(); 0u8; LONGEST_FILE]?;
     match compiler.compile(&text, &mut buffer) {
         Ok(length) => {
             fs::write(rt, out, &buffer[..length]).map_err(Failure::Unsaved)?;

@@ -1,7 +1,7 @@
 //! `grafcet` alone: a chart text is compiled, its code file is loaded and listed, and wrong texts and damaged files are
 //! refused.
 use crate::cause::cause_of;
-use crate::compiling::{LONGEST, print_compiled};
+use crate::compiling::{LONGEST_FILE, print_compiled};
 use crate::damage::{Damage, try_damaged};
 use crate::example::{TEXT, WRONG};
 use crate::failure::Failure;
@@ -67,7 +67,7 @@ pub fn run(rt: &HostRuntime) -> Result<(), Failure> {
     print_text(rt, TEXT)?;
     let mut compiler = Compiler::new(rt.alloc())?;
     let mut program = Program::new(rt.alloc())?;
-    let mut buffer = vec![in rt.alloc(); 0u8; LONGEST]?;
+    let mut buffer = vec![in rt.alloc(); 0u8; LONGEST_FILE]?;
     let length = compiler.build(TEXT.as_bytes(), &mut buffer, &mut program)?;
     println!(rt; "\nCompiled to a code file:")?;
     print_compiled(rt, length)?;

@@ -1,18 +1,16 @@
 //! The line of a text in which a place stands, as it is shown on a screen.
-ghost use Rattle.std.specs.Prelude.{◌≡◌, ℕ, ◌+◌, ◌-◌, ◌<◌, ◌≤◌, ◌&&◌, length, if◌then◌else◌, ◌≢◌, nat_le, nat_lt, slice_index};
+ghost use Rattle.std.specs.Prelude.{◌≡◌, ◌+◌, ◌≤◌, length, IfOk, string_bytes};
+ghost use Rattle.grafcet.specs.Excerpts.{column_of, excerpt, shown_before, shown_from};
 
 use std::alloc::{AllocError, Global};
 
-// So many bytes of a long line are shown before a place, and as many behind it.
+// So many bytes of a long line are shown before a place, and as many from it on.
 const MARGIN: usize = 100;
 
-// Where the line begins, or a hundred bytes before the place. A text and a place stay two parameters: each caller has both
-// from elsewhere, and nothing is kept of them.
+// Where the line begins, or a hundred bytes before the place.
 fn start_of(text: &[u8], place: usize) -> usize
     requires { place ≤ length text.now }
-    ensures before { (result ≤ place) × (place ≤ result + MARGIN) }
-    ensures one_line { (k : ℕ) → result ≤ k → k < place → slice_index text.now k ≢ 10 }
-    ensures whole { 0 < result → place < result + MARGIN → slice_index text.now (result - 1) ≡ 10 }
+    ensures { result + length (shown_before text.now place) ≡ place }
 {
     let before = text[..place].iter().rev().take(MARGIN);
     place - before.take_while(|b| **b != b'\n').count()
@@ -21,9 +19,8 @@ fn start_of(text: &[u8], place: usize) -> usize
 // Where the line ends, or a hundred bytes behind the place.
 fn end_of(text: &[u8], place: usize) -> usize
     requires { place ≤ length text.now }
-    ensures behind { (place ≤ result) × (result ≤ length text.now) × (result ≤ place + MARGIN) }
-    ensures one_line { (k : ℕ) → place ≤ k → k < result → slice_index text.now k ≢ 10 }
-    ensures whole { result < length text.now → result < place + MARGIN → slice_index text.now result ≡ 10 }
+    ensures shown { result ≡ place + length (shown_from text.now place) }
+    ensures within { result ≤ length text.now }
 {
     let behind = text[place..].iter().take(MARGIN);
     place + behind.take_while(|b| **b != b'\n').count()
@@ -31,7 +28,7 @@ fn end_of(text: &[u8], place: usize) -> usize
 
 // A byte as one column of a screen: itself, or a question mark.
 fn column_of(byte: u8) -> char
-    ensures { result ≡ (if nat_le 32 byte && nat_lt byte 127 then byte else 63) }
+    ensures { result ≡ column_of byte }
 {
     match byte {
         b' '..=b'~' => char::from(byte),
@@ -40,15 +37,18 @@ fn column_of(byte: u8) -> char
 }
 
 /// The line, and below it a caret under the place.
-pub fn excerpt(heap: Global, text: &[u8], place: usize) -> Result<String, AllocError> {
+pub fn excerpt(heap: Global, text: &[u8], place: usize) -> Result<String, AllocError>
+    ensures { IfOk result (λ s. string_bytes s ≡ excerpt text.now place) }
+{
     let place = place.min(text.len());
     let start = start_of(text, place);
+    let line = &text[start..end_of(text, place)];
     let mut shown = String::new(heap);
-    for &byte in &text[start..end_of(text, place)] {
+    for &byte in line {
         shown.push(column_of(byte))?;
     }
     shown.push('\n')?;
-    for _ in start..place {
+    for _ in 0..place - start {
         shown.push(' ')?;
     }
     shown.push('^')?;

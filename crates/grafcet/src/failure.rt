@@ -1,7 +1,7 @@
 //! Why a command fails.
 ghost use Rattle.std.specs.Prelude.{◌≡◌};
-ghost use Rattle.grafcet.specs.declared.failure.Failure.TheVariants.{Refused as IsRefused, Unwritable as IsUnwritable, OutOfMemory as IsOutOfMemory};
-ghost use Rattle.faults.specs.declared.Fault.TheVariants.{Code as OfCode};
+ghost use Rattle.grafcet.specs.declared.failure.Failure.{Failure};
+ghost use Rattle.faults.specs.declared.Fault.{Fault};
 
 use crate::cause::cause_of;
 use faults::{CodeFault, Fault};
@@ -50,7 +50,7 @@ impl fmt::Display for Failure {
 }
 
 impl From<AllocError> for Failure {
-    ghost from_gives = { λ _ r. r ≡ IsOutOfMemory };
+    ghost from_gives = { λ _ r. r ≡ Failure.OutOfMemory };
 
     fn from(_e: AllocError) -> Failure {
         Failure::OutOfMemory
@@ -58,7 +58,7 @@ impl From<AllocError> for Failure {
 }
 
 impl From<io::Error> for Failure {
-    ghost from_gives = { λ e r. r ≡ IsUnwritable e };
+    ghost from_gives = { λ e r. r ≡ Failure.Unwritable e };
 
     fn from(e: io::Error) -> Failure {
         Failure::Unwritable(e)
@@ -66,7 +66,7 @@ impl From<io::Error> for Failure {
 }
 
 impl From<CodeFault> for Failure {
-    ghost from_gives = { λ e r. r ≡ IsRefused (OfCode e) };
+    ghost from_gives = { λ e r. r ≡ Failure.Refused (Fault.Code e) };
 
     fn from(e: CodeFault) -> Failure {
         Failure::Refused(Fault::from(e))

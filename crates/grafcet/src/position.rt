@@ -1,6 +1,6 @@
 //! Lines and columns of a text.
-ghost use Rattle.std.specs.Prelude.{◌≡◌, ◌+◌, ◌^◌, ◌<◌, ◌≤◌};
-ghost use Rattle.grafcet.specs.Positions.{behind, position_at};
+ghost use Rattle.std.specs.Prelude.{◌≡◌, ◌+◌, ◌^◌, ◌<◌, ◌==◌, if◌then◌else◌};
+ghost use Rattle.grafcet.specs.Positions.{position_at};
 
 /// A line and a column, both from 1 on; columns are bytes.
 #[derive(Clone, Copy, PartialEq, Eq, Debug)]
@@ -14,8 +14,8 @@ impl Position {
     fn after(self, byte: u8) -> Position
         requires line { self.line + 1 < 2 ^ 64 }
         requires column { self.column + 1 < 2 ^ 64 }
-        ensures behind { result ≡ behind self byte }
-        ensures near { (result.line ≤ self.line + 1) × (result.column ≤ self.column + 1) }
+        ensures line { result.line ≡ (if byte == 10 then self.line + 1 else self.line) }
+        ensures column { result.column ≡ (if byte == 10 then 1 else self.column + 1) }
     {
         if byte == b'\n' {
             Position {

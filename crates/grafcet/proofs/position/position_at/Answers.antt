@@ -1,9 +1,11 @@
-use Rattle.std.proofs.Common.{ℕ, ◌+◌, ◌^◌, ◌<◌, ◌≤◌, List, length, length-append, ap, ◌∙◌, rules, arith, Bor}
+use Rattle.std.proofs.Common.{ℕ, ◌+◌, ◌^◌, ◌<◌, ◌≤◌, List, length, take, length-append, ap, ◌∙◌, rules, tests, arith, Bor}
 use Rattle.std.proofs.lemmas.Fn.{serves_by}
 use Rattle.std.proofs.lemmas.Iterator.{YieldsList-from_slice, YieldsList-from_take}
 use Rattle.std.proofs.lemmas.Iterator.Adapters.{at_most_from_yields_List}
+use Rattle.std.proofs.lemmas.Iterator.Consumers.{fold_from_yields_List}
 use Rattle.std.proofs.lemmas.List.{length-take}
 use Rattle.grafcet.specs.declared.position.Position.{Position}
+use Rattle.grafcet.proofs.Positions.{behind, fold-behind}
 use Rattle.grafcet.proofs.position.position_at.Goals as goal
 
 -- After n bytes the line and the column are n + 1 at most, and no text is long enough for them to overflow.
@@ -20,3 +22,10 @@ fold-requires-clause-callable c =
     let k : q.1.line + 1 < 2 ^ 64 = omega arith in
     let l : q.1.column + 1 < 2 ^ 64 = omega arith in
     search rules)
+
+pub returns : goal.returns
+returns c =
+    let rest = ap (λ x. x.rest.now) c.take.ensures.source ∙ c.iter.ensures.rest in
+    let near = YieldsList-from_take {s = c.take.result} c.args.place (YieldsList-from_slice c.args.text.now rest) c.take.ensures.count in
+    fold_from_yields_List _ behind _ _ c.fold.ensures.ran near (λ p x q f k. search (rules, tests))
+    ∙ fold-behind (take c.args.place c.args.text.now)
