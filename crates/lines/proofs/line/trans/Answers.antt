@@ -37,9 +37,9 @@ returns-clause-reads c =
     c.in_ok-first.ensures
     c.in_ok-from.ensures
     c.in_ok-to.ensures
-    (c.push.ensures ∙ ap (λ k. pushed k (instruction.AndOpen ∷ [])) c.test_steps.ensures)
+    (c.push.ensures.step ∙ ap (λ k. pushed k (instruction.AndOpen ∷ [])) c.test_steps.ensures)
     c.in_ok-rest.ensures.reads
-    (c.push-3.ensures ∙ ap (λ k. pushed k (instruction.Store c.in_ok-number.number.value ∷ [])) c.push-2.ensures)
+    (c.push-3.ensures.step ∙ ap (λ k. pushed k (instruction.Store c.in_ok-number.number.value ∷ [])) c.push-2.ensures.step)
     (omega arith)
     refl
     c.in_ok-left.ensures
@@ -47,4 +47,4 @@ returns-clause-reads c =
 pub returns-in_err-left-clause-leaves : goal.returns-in_err-left-clause-leaves
 returns-in_err-left-clause-leaves c =
     let p = err_from_is_err_and c.from_residual-in_err-left.result c.from_residual-in_err-left.ensures.1 in
-    rw (p.1) (grown_test _ _ _ _ _ _ _ (c.push.ensures ∙ ap (λ k. pushed k (instruction.AndOpen ∷ [])) c.test_steps.ensures) c.in_ok-rest.ensures.reads.emitted (c.push-3.ensures ∙ ap (λ k. pushed k (instruction.Store c.in_ok-number.number.value ∷ [])) c.push-2.ensures))
+    rw (p.1) (grown_test _ _ _ _ _ _ _ (c.push.ensures.step ∙ ap (λ k. pushed k (instruction.AndOpen ∷ [])) c.test_steps.ensures) c.in_ok-rest.ensures.reads.emitted (c.push-3.ensures.step ∙ ap (λ k. pushed k (instruction.Store c.in_ok-number.number.value ∷ [])) c.push-2.ensures.step))

@@ -9,7 +9,7 @@ loop-instruction-preserved c =
     let k = kept_in c.loop-instruction.out in
     let is = c.args.instructions.now in
     let i = c.loop-instruction.instruction-index in
-    ap (λ j. pushed j (drop (i + 1) is)) c.push.ensures ∙ pushed_append k (_ ∷ []) (drop (i + 1) is)
+    ap (λ j. pushed j (drop (i + 1) is)) c.push.ensures.step ∙ pushed_append k (_ ∷ []) (drop (i + 1) is)
     ∙ sym (at_drop_more (pushed k) is i _ c.loop-instruction-test.true) ∙ c.loop-instruction.invariant
 
 pub returns : goal.returns

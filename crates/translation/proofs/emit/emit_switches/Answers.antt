@@ -32,7 +32,7 @@ loop-token-preserved c =
     let ts = c.args.steps.now in
     let i = c.loop-token.token-index in
     elim c.match-number_of.branch [
-      | in-Some w ↦ takes a k l _ ts i _ w.in-Some.step w.switch.result c.loop-token-test.true w.in-Some.ensures w.switch.ensures (ap kept_in w.out-is ∙ w.push-in-Some.ensures) c.loop-token.invariant
+      | in-Some w ↦ takes a k l _ ts i _ w.in-Some.step w.switch.result c.loop-token-test.true w.in-Some.ensures w.switch.ensures (ap kept_in w.out-is ∙ w.push-in-Some.ensures.step) c.loop-token.invariant
       | in_default w ↦ skips a k l _ ts i _ c.loop-token-test.true w.in_default.ensures (ap kept_in w.out-is) c.loop-token.invariant
     ]
 
@@ -42,4 +42,4 @@ returns c =
     let ts = c.args.steps.now in
     let i = c.loop-token.token-index in
     let a = c.args.action in
-    sym (switching_none a (kept_in c.loop-token.out)) ∙ sym (at_drop_all (switching a (kept_in c.loop-token.out)) ts i c.loop-token-test.false) ∙ pushed_then _ _ (Load (operand.Cleared c.args.transition) ∷ []) _ (c.push.ensures ∙ ap (λ i. pushed (kept_in c.args.out.now) (i ∷ [])) c.load_cleared.ensures) c.loop-token.invariant
+    sym (switching_none a (kept_in c.loop-token.out)) ∙ sym (at_drop_all (switching a (kept_in c.loop-token.out)) ts i c.loop-token-test.false) ∙ pushed_then _ _ (Load (operand.Cleared c.args.transition) ∷ []) _ (c.push.ensures.step ∙ ap (λ i. pushed (kept_in c.args.out.now) (i ∷ [])) c.load_cleared.ensures) c.loop-token.invariant
