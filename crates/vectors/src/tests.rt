@@ -56,6 +56,14 @@ struct Head {
     section: Section,
 }
 
+fn broken_head(numbers: [u32; 10], words: usize, section: Section) -> Head {
+    Head {
+        numbers,
+        words,
+        section,
+    }
+}
+
 fn judge_heads(rt: &impl Abort, heap: Global, heads: &[Head]) -> Result<(), Fail> {
     let mut program = Program::new(heap)?;
     for head in heads {
@@ -121,64 +129,32 @@ fn short_and_unmarked(rt: HostRuntime) -> Result<(), Fail> {
 #[test]
 fn pairs(rt: HostRuntime) -> Result<(), Fail> {
     let heads = [
-        Head {
-            numbers: [40, 8, 44, 0, 44, 0, 44, 0, 1, 0],
-            words: 0,
-            section: Section::Initial,
-        },
-        Head {
-            numbers: [36, 12, 48, 0, 48, 0, 48, 0, 1, 0],
-            words: 1,
-            section: Section::Initial,
-        },
-        Head {
-            numbers: [36, 8, 48, 0, 48, 0, 48, 0, 1, 0],
-            words: 1,
-            section: Section::Clear,
-        },
-        Head {
-            numbers: [36, 8, 44, 2, 46, 2, 48, 0, 1, 0],
-            words: 1,
-            section: Section::Clear,
-        },
-        Head {
-            numbers: [36, 8, 44, 4, 44, 0, 48, 0, 1, 0],
-            words: 1,
-            section: Section::Enter,
-        },
-        Head {
-            numbers: [36, 8, 44, 0, 44, 4, 48, 4, 1, 0],
-            words: 1,
-            section: Section::Hold,
-        },
-        Head {
-            numbers: [36, 8, 44, 0, 44, 0, 44, 4, 1, 0],
-            words: 2,
-            section: Section::Hold,
-        },
-        Head {
-            numbers: [36, 8, 44, 0, 44, 0, 44, 6, 1, 0],
-            words: 2,
-            section: Section::Hold,
-        },
+        broken_head([40, 8, 44, 0, 44, 0, 44, 0, 1, 0], 0, Section::Initial),
+        broken_head([36, 12, 48, 0, 48, 0, 48, 0, 1, 0], 1, Section::Initial),
+        broken_head([36, 8, 48, 0, 48, 0, 48, 0, 1, 0], 1, Section::Clear),
+        broken_head([36, 8, 44, 2, 46, 2, 48, 0, 1, 0], 1, Section::Clear),
+        broken_head([36, 8, 44, 4, 44, 0, 48, 0, 1, 0], 1, Section::Enter),
+        broken_head([36, 8, 44, 0, 44, 4, 48, 4, 1, 0], 1, Section::Hold),
+        broken_head([36, 8, 44, 0, 44, 0, 44, 4, 1, 0], 2, Section::Hold),
+        broken_head([36, 8, 44, 0, 44, 0, 44, 6, 1, 0], 2, Section::Hold),
         // 44 and 4,294,967,252 add up to 2^32, which is no offset
-        Head {
-            numbers: [36, 8, 44, 4294967252, 0, 44, 44, 0, 1, 0],
-            words: 0,
-            section: Section::Enter,
-        },
+        broken_head(
+            [36, 8, 44, 4294967252, 0, 44, 44, 0, 1, 0],
+            0,
+            Section::Enter,
+        ),
         // a part that reaches behind the file's end is met at the last pair
-        Head {
-            numbers: [36, 8, 44, 4294967248, 4294967292, 0, 4294967292, 0, 1, 0],
-            words: 0,
-            section: Section::Hold,
-        },
+        broken_head(
+            [36, 8, 44, 4294967248, 4294967292, 0, 4294967292, 0, 1, 0],
+            0,
+            Section::Hold,
+        ),
         // three lengths whose sum passes 2^32
-        Head {
-            numbers: [36, 8, 44, 2147483648, 2147483692, 2147483648, 44, 0, 1, 0],
-            words: 0,
-            section: Section::Hold,
-        },
+        broken_head(
+            [36, 8, 44, 2147483648, 2147483692, 2147483648, 44, 0, 1, 0],
+            0,
+            Section::Hold,
+        ),
     ];
     judge_heads(&rt, rt.alloc(), &heads)
 }

@@ -91,7 +91,7 @@ fn numbers_and_brackets_at_the_limit(rt: HostRuntime) -> Result<(), Fail> {
 }
 
 #[test]
-fn charts_that_do_not_hold_together(rt: HostRuntime) -> Result<(), Fail> {
+fn declarations_missing_or_repeated(rt: HostRuntime) -> Result<(), Fail> {
     let cases = [
         in_chart("", ChartFault::NoInitialStep(0)),
         in_chart("step 63", ChartFault::NoInitialStep(7)),
@@ -114,6 +114,13 @@ fn charts_that_do_not_hold_together(rt: HostRuntime) -> Result<(), Fail> {
             "step 0 initial\nenter 1 set Q0",
             ChartFault::UndeclaredStep(21),
         ),
+    ];
+    judge_texts(&rt, rt.alloc(), &cases)
+}
+
+#[test]
+fn entries_listed_or_held_twice(rt: HostRuntime) -> Result<(), Fail> {
+    let cases = [
         in_chart(
             "step 0 initial\nstep 1\ntrans 0 from 0, 1, 0 to 1 when 1",
             ChartFault::ListedTwice(41),
