@@ -1,6 +1,8 @@
 //! Writing a code file.
 ghost use Rattle.std.specs.Prelude.{◌≡◌, ◌+◌, ◌*◌, ◌<◌, ◌≤◌, length, take, IfOk, MatchOption};
-ghost use Rattle.codefile.specs.Written.{bytes32, word_bytes, pair_bytes, directory_bytes, section_at, directory_for, head_bytes, file_of, word_count, written, answered, buffer_after, over, code_for, LoadsBack};
+ghost use Rattle.codefile.specs.Written.{bytes32, word_bytes, pair_bytes, directory_bytes, head_bytes, over};
+ghost use Rattle.codefile.specs.Written.{section_at, directory_for, file_of, word_count, code_for};
+ghost use Rattle.codefile.specs.Written.{written, answered, buffer_after, LoadsBack};
 
 use crate::directory::{Directory, Pair};
 use words::list::MOST_WORDS;
@@ -92,7 +94,9 @@ struct Fitting<'a> {
 
 impl<'a> Fitting<'a> {
     fn new(contents: Contents<'a>) -> Option<Fitting<'a>>
-        ensures { MatchOption result (MOST_WORDS < word_count (code_for contents.entry)) (λ f. f.contents ≡ contents.entry) }
+        ensures { MatchOption result
+            (MOST_WORDS < word_count (code_for contents.entry))
+            (λ f. f.contents ≡ contents.entry) }
     {
         if contents.clear.len() + contents.enter.len() + contents.hold.len() > MOST_WORDS {
             return None;
@@ -130,7 +134,8 @@ impl<'a> Fitting<'a> {
     fn put(&self, buffer: &mut [u8])
         requires { 44 + 4 * word_count (code_for self.now.contents) ≤ length buffer.old }
         ensures file { buffer.new ≡ over 0 (file_of (code_for self.now.contents)) buffer.old }
-        ensures loads_back { LoadsBack (code_for self.now.contents) (take (length (file_of (code_for self.now.contents))) buffer.new) }
+        ensures loads_back { LoadsBack (code_for self.now.contents)
+            (take (length (file_of (code_for self.now.contents))) buffer.new) }
     {
         put_head(buffer, self.directory(), self.contents.initial);
         put_words(buffer, 44, self.contents.clear);

@@ -11,7 +11,9 @@ use words::list::WordList;
 
 // The words of a list, if there were no more.
 fn all_of(list: &WordList) -> Option<&[u32]>
-    ensures { MatchOption result ((kept_in list.now).more ≡ true) (λ w. ((kept_in list.now).more ≡ false) × (w.now ≡ (kept_in list.now).words)) }
+    ensures { MatchOption result
+        ((kept_in list.now).more ≡ true)
+        (λ w. ((kept_in list.now).more ≡ false) × (w.now ≡ (kept_in list.now).words)) }
 {
     (!list.has_more()).then(|| list.words())
 }

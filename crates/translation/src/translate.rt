@@ -106,7 +106,7 @@ impl Draft {
         self.clear.append(&self.sets);
     }
 
-    /// Drafts the parts of a text, or names its first fault.
+    /// Drafts the parts of a text, or names its first fault; then what the draft holds is open.
     pub fn translate(&mut self, text: Rest<'_>) -> Result<(), TextFault>
         ensures drafted { Translated (lines_left text.entry) self.new result }
         ensures sound { (lines : List Tree) → lines_left text.entry ≡ Ok lines → SoundParts lines }
