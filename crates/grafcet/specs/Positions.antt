@@ -7,7 +7,7 @@ use Rattle.grafcet.specs.declared.position.Position.{Position}
 abbrev pub is_line_end : ℕ → Bool
 is_line_end byte = byte == 10
 
--- behind these bytes the line is 1 and their line ends, the column 1 and the bytes behind the last line end
+-- behind the bytes: line 1 and the number of line ends, column 1 and the number of bytes behind the last of them
 abbrev pub position_behind : List ℕ → Position
 position_behind bytes = record {
   line = 1 + count_by is_line_end bytes;
