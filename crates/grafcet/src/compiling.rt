@@ -37,6 +37,9 @@ fn report(rt: &HostRuntime, path: &str, text: &[u8], fault: Fault) -> Result<(),
 }
 
 pub fn run(rt: &HostRuntime, chart: &str, out: &str) -> Result<(), Failure> {
+    if chart == out {
+        return Err(Failure::OverChart);
+    }
     let text = read_file(rt, chart)?;
     let mut compiler = Compiler::new(rt.alloc())?;
     let mut buffer = vec![in rt.alloc(); 0u8; LONGEST_FILE]?;

@@ -20,6 +20,8 @@ pub enum Failure {
     Refused(Fault),
     /// The text is refused, and the reason is told already.
     Reported,
+    /// The code file has the name of the chart.
+    OverChart,
     /// The code file cannot be written.
     Unsaved(io::Error),
     /// The output cannot be written.
@@ -42,6 +44,7 @@ impl fmt::Display for Failure {
                 write!(f, "byte {place}: {cause}")
             }
             Failure::Reported => write!(f, "refused"),
+            Failure::OverChart => write!(f, "the code file would take the place of the chart"),
             Failure::Unsaved(error) => write!(f, "the code file cannot be written: {error}"),
             Failure::Unwritable(error) => write!(f, "the output cannot be written: {error}"),
             Failure::OutOfMemory => write!(f, "out of memory"),

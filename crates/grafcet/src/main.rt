@@ -61,7 +61,14 @@ fn told(rt: &HostRuntime, subject: &str, res: Result<(), Failure>) -> Result<(),
 fn perform(rt: &HostRuntime, args: &[String]) -> Result<(), Failure> {
     match command_of(args) {
         Some(Command::Demo) => told(rt, "grafcet", demo::run(rt)),
-        Some(Command::Compile { chart, out }) => told(rt, chart, compiling::run(rt, chart, out)),
+        Some(Command::Compile { chart, out }) => {
+            let outcome = compiling::run(rt, chart, out);
+            let subject = match outcome {
+                Err(Failure::Unsaved(_)) => out,
+                _ => chart,
+            };
+            told(rt, subject, outcome)
+        }
         Some(Command::Load(path)) => told(rt, path, load::run(rt, path)),
         None => told(rt, "usage", Err(Failure::Usage)),
     }
