@@ -1,8 +1,10 @@
 -- The checks of a chart: the first of the faults 7 to 11 that its lines have. Assumes nothing.
-use Rattle.std.specs.Prelude.{ℕ, Bool, false, cond, ◌&&◌, ◌||◌, List, [], ◌∷◌, ◌++◌, map, Some, None, Ok, Err, Option, Result, ◌==◌, nat_lt}
+use Rattle.std.specs.Prelude.{ℕ, Bool, false, cond, ◌&&◌, ◌||◌, List, [], ◌∷◌, ◌++◌, map, Some, None, Ok, Err, Option}
+use Rattle.std.specs.Prelude.{Result, ◌==◌, nat_lt}
 use Rattle.faults.specs.declared.TextFault.{TextFault}
 use Rattle.faults.specs.declared.ChartFault.{ChartFault}
-use Rattle.faults.specs.declared.ChartFault.TheVariants.{Text, DeclaredTwice, UndeclaredStep, ListedTwice, HeldTwice, NoInitialStep}
+use Rattle.faults.specs.declared.ChartFault.TheVariants.{Text, DeclaredTwice, UndeclaredStep, ListedTwice, HeldTwice}
+use Rattle.faults.specs.declared.ChartFault.TheVariants.{NoInitialStep}
 use Rattle.faults.specs.Numbers.{chart_number, chart_place}
 use Rattle.lines.specs.declared.shape.Number.{Number}
 use Rattle.lines.specs.Grammar.{Tree}
@@ -82,7 +84,9 @@ chart_faults declared before (t ∷ ts) = faults_in declared before t ++ chart_f
 
 -- ---- the first fault: the least place, and at one place the smaller number
 abbrev pub precedes : ChartFault → ChartFault → Bool
-precedes f g = nat_lt (chart_place f) (chart_place g) || (chart_place f == chart_place g && nat_lt (chart_number f) (chart_number g))
+precedes f g =
+    nat_lt (chart_place f) (chart_place g) ||
+    (chart_place f == chart_place g && nat_lt (chart_number f) (chart_number g))
 
 abbrev pub keep : Option ChartFault → ChartFault → Option ChartFault
 keep None f = Some f

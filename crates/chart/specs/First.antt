@@ -4,7 +4,8 @@ use Rattle.std.specs.Prelude.{◌≡◌, ℕ, ◌<◌, ◌≤◌, true, ◌⊎�
 use Rattle.faults.specs.Numbers.{chart_number, chart_place}
 use Rattle.faults.specs.declared.TextFault.{TextFault}
 use Rattle.faults.specs.declared.ChartFault.{ChartFault}
-use Rattle.faults.specs.declared.ChartFault.TheVariants.{Text, DeclaredTwice, UndeclaredStep, ListedTwice, HeldTwice, NoInitialStep}
+use Rattle.faults.specs.declared.ChartFault.TheVariants.{Text, DeclaredTwice, UndeclaredStep, ListedTwice, HeldTwice}
+use Rattle.faults.specs.declared.ChartFault.TheVariants.{NoInitialStep}
 use Rattle.lines.specs.declared.shape.Number.{Number}
 use Rattle.lines.specs.Grammar.{Tree, step}
 use Rattle.chart.specs.Said.{Holding, steps_of, transitions_of, uses_of, lists_of, holdings_of, all}

@@ -1,9 +1,11 @@
 -- The law of the first fault: of all faults that the words of a file have, the one at the least place is reported, and at
 -- one place the one with the smaller number. Assumes nothing.
-use Rattle.std.specs.Prelude.{◌≡◌, ℕ, ◌+◌, ◌*◌, ◌<◌, ◌≤◌, true, false, if◌then◌else◌, ◌⊎◌, List, [], ◌∷◌, length, take, Ok, Err, Result, slice_index}
+use Rattle.std.specs.Prelude.{◌≡◌, ℕ, ◌+◌, ◌*◌, ◌<◌, ◌≤◌, true, false, if◌then◌else◌, ◌⊎◌, List, [], ◌∷◌, length}
+use Rattle.std.specs.Prelude.{take, Ok, Err, Result, slice_index}
 use Rattle.faults.specs.Numbers.{file_number, file_place}
 use Rattle.faults.specs.declared.FileFault.{FileFault}
-use Rattle.faults.specs.declared.FileFault.TheVariants.{TooShort, NoMark, BadPair, TooManyWords, UnlawfulWord, Unbalanced}
+use Rattle.faults.specs.declared.FileFault.TheVariants.{TooShort, NoMark, BadPair, TooManyWords, UnlawfulWord}
+use Rattle.faults.specs.declared.FileFault.TheVariants.{Unbalanced}
 use Rattle.words.specs.Words.{lawful}
 use Rattle.words.specs.Brackets.{opens, closes}
 use Rattle.codefile.specs.Parts.{Stretch}
@@ -27,7 +29,9 @@ pub record WordAt (start : ℕ) (words : List ℕ) (place : ℕ) (P : List ℕ �
 
 -- after those before it, the word closes a bracket where none is open, or opens the eighteenth
 abbrev pub Misplaced : List ℕ → ℕ → Type 0
-Misplaced before w = ((closes w ≡ true) × (opened before ≤ closed before)) ⊎ ((opens w ≡ true) × (closed before + 17 ≤ opened before))
+Misplaced before w =
+    ((closes w ≡ true) × (opened before ≤ closed before)) ⊎
+    ((opens w ≡ true) × (closed before + 17 ≤ opened before))
 
 -- the words end at the place, and leave a bracket open
 pub record OpenAtEnd (start : ℕ) (words : List ℕ) (place : ℕ) : Type 0 where

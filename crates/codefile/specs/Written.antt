@@ -1,5 +1,6 @@
 -- The code file of a program, byte by byte, and what writing it leaves. Assumes nothing.
-use Rattle.std.specs.Prelude.{◌≡◌, ℕ, ◌+◌, ◌*◌, ◌/◌, ◌%◌, true, cond, List, [], ◌∷◌, ◌++◌, length, take, drop, Ok, Err, Result, nat_lt}
+use Rattle.std.specs.Prelude.{◌≡◌, ℕ, ◌+◌, ◌*◌, ◌/◌, ◌%◌, true, cond, List, [], ◌∷◌, ◌++◌, length, take, drop, Ok}
+use Rattle.std.specs.Prelude.{Err, Result, nat_lt}
 use Rattle.words.specs.declared.instruction.Part.TheVariants.{Clear, Enter, Hold}
 use Rattle.words.specs.Brackets.{sound}
 use Rattle.codefile.specs.declared.directory.Pair.{Pair}

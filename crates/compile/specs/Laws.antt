@@ -32,7 +32,9 @@ abbrev pub Reads : List Token → Result (Unit {0}) TextFault → ℕ → Result
 Reads ts (Ok _) e (Ok ls) = Only ts ls
 Reads ts (Ok _) e (Err f) = StuckText ts e f
 Reads ts (Err stop) e (Ok ls) = ⊥
-Reads ts (Err stop) e (Err f) = ((f ≡ stop) × GoesOn ts) ⊎ (StuckText ts (text_place stop) f × (text_place f < text_place stop))
+Reads ts (Err stop) e (Err f) =
+    ((f ≡ stop) × GoesOn ts) ⊎
+    (StuckText ts (text_place stop) f × (text_place f < text_place stop))
 
 -- a text is spelled by tokens, and by no others; these are read
 pub record TextRead (text : List ℕ) (r : Result (List Tree) TextFault) : Type 0 where

@@ -13,7 +13,8 @@ use text::tokens::Tokens;
 use translation::draft::Draft;
 use words::list::WordList;
 
-/// Compiles chart texts. All its room is reserved when it is made; what a text leaves in it does not matter to the next.
+/// Compiles chart texts. All its room is reserved when it is made; what one text leaves in it does not matter to the
+/// next.
 #[derive(Drop)]
 pub struct Compiler {
     tokens: Tokens,

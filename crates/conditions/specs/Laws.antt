@@ -1,12 +1,14 @@
 -- What the scan of a condition means in words of the tree. Assumes nothing.
 use Rattle.std.specs.Prelude.{◌≡◌, ℕ, ◌+◌, ◌≤◌, List, [], ◌∷◌, ◌++◌}
 use Rattle.faults.specs.declared.TextFault.{TextFault}
-use Rattle.faults.specs.declared.TextFault.TheVariants.{TooLong, NoToken, TooManyDigits, Unexpected, EighthBracket, NumberTooLarge}
+use Rattle.faults.specs.declared.TextFault.TheVariants.{TooLong, NoToken, TooManyDigits, Unexpected, EighthBracket}
+use Rattle.faults.specs.declared.TextFault.TheVariants.{NumberTooLarge}
 use Rattle.faults.specs.Numbers.{text_place}
 use Rattle.text.specs.declared.token.Letter.{Letter}
 use Rattle.text.specs.declared.token.Token.{Token}
 use Rattle.text.specs.declared.token.TokenKind.{TokenKind}
-use Rattle.text.specs.declared.token.TokenKind.TheVariants.{Keyword, Digits, Operand, Comma, Dot, Plus, Bang, Open, Close, Slash, Backslash, LineEnd}
+use Rattle.text.specs.declared.token.TokenKind.TheVariants.{Keyword, Digits, Operand, Comma, Dot, Plus, Bang, Open}
+use Rattle.text.specs.declared.token.TokenKind.TheVariants.{Close, Slash, Backslash, LineEnd}
 use Rattle.words.specs.Emitted.{Kept, pushed}
 use Rattle.conditions.specs.declared.rest.Rest.{Rest}
 use Rattle.conditions.specs.Read.{kinds, Lacks, placed}

@@ -11,7 +11,8 @@ use Rattle.words.specs.Emitted.{Kept, pushed}
 use Rattle.conditions.specs.declared.rest.Rest.{Rest}
 use Rattle.conditions.specs.declared.tree.Atom.{Atom}
 use Rattle.conditions.specs.Read.{Heads, Lacks}
-use Rattle.conditions.specs.Scan.{State, Scan, fails, scan, wants, primary, sign, Terms, no_terms, Factors, no_factors, join, extend, Brackets, deep, read}
+use Rattle.conditions.specs.Scan.{State, Scan, fails, scan, wants, primary, sign, Terms, no_terms, Factors}
+use Rattle.conditions.specs.Scan.{no_factors, join, extend, Brackets, deep, read}
 use Rattle.conditions.specs.Tree as tree
 use Rattle.conditions.specs.Tree.{Term, Factor, Primary, words, words_term, words_factor, words_primary}
 

@@ -6,7 +6,8 @@ use Rattle.text.specs.declared.token.Letter.{Letter}
 use Rattle.text.specs.declared.token.Letter.TheVariants.{I, Q, X}
 use Rattle.text.specs.declared.token.Token.{Token}
 use Rattle.text.specs.declared.token.TokenKind.{TokenKind}
-use Rattle.text.specs.declared.token.TokenKind.TheVariants.{Keyword, Digits, Operand, Comma, Dot, Plus, Bang, Open, Close, Slash, Backslash, LineEnd}
+use Rattle.text.specs.declared.token.TokenKind.TheVariants.{Keyword, Digits, Operand, Comma, Dot, Plus, Bang, Open}
+use Rattle.text.specs.declared.token.TokenKind.TheVariants.{Close, Slash, Backslash, LineEnd}
 use Rattle.conditions.specs.declared.tree.Atom.{Atom}
 use Rattle.conditions.specs.declared.tree.Atom.TheVariants.{Plain, Rise, Fall, Always}
 use Rattle.conditions.specs.Tree as tree

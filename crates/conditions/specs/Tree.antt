@@ -5,7 +5,8 @@ use Rattle.conditions.specs.declared.tree.Atom.{Atom}
 use Rattle.conditions.specs.declared.tree.Atom.TheVariants.{Plain, Rise, Fall, Always}
 use Rattle.text.specs.declared.token.Letter.TheVariants.{I, Q, X}
 use Rattle.text.specs.declared.token.TokenKind.{TokenKind}
-use Rattle.text.specs.declared.token.TokenKind.TheVariants.{Digits, Operand, Dot, Plus, Bang, Open, Close, Slash, Backslash}
+use Rattle.text.specs.declared.token.TokenKind.TheVariants.{Digits, Operand, Dot, Plus, Bang, Open, Close, Slash}
+use Rattle.text.specs.declared.token.TokenKind.TheVariants.{Backslash}
 use Rattle.words.specs.declared.instruction.Operand.{Operand as Source}
 use Rattle.words.specs.declared.instruction.Operand.TheVariants as operand
 use Rattle.words.specs.declared.instruction.Operand.TheVariants.{Input, Step, Output}

@@ -3,9 +3,11 @@ use Rattle.std.specs.Prelude.{ℕ}
 use Rattle.faults.specs.declared.Layer.{Layer}
 use Rattle.faults.specs.declared.Layer.TheVariants as layer
 use Rattle.faults.specs.declared.TextFault.{TextFault}
-use Rattle.faults.specs.declared.TextFault.TheVariants.{TooLong, NoToken, TooManyDigits, Unexpected, EighthBracket, NumberTooLarge}
+use Rattle.faults.specs.declared.TextFault.TheVariants.{TooLong, NoToken, TooManyDigits, Unexpected, EighthBracket}
+use Rattle.faults.specs.declared.TextFault.TheVariants.{NumberTooLarge}
 use Rattle.faults.specs.declared.ChartFault.{ChartFault}
-use Rattle.faults.specs.declared.ChartFault.TheVariants.{Text, DeclaredTwice, UndeclaredStep, ListedTwice, HeldTwice, NoInitialStep}
+use Rattle.faults.specs.declared.ChartFault.TheVariants.{Text, DeclaredTwice, UndeclaredStep, ListedTwice, HeldTwice}
+use Rattle.faults.specs.declared.ChartFault.TheVariants.{NoInitialStep}
 use Rattle.faults.specs.declared.CodeFault.{CodeFault}
 use Rattle.faults.specs.declared.CodeFault.TheVariants.{Chart, TooManyWords, BufferTooShort}
 use Rattle.faults.specs.declared.Section.{Section}

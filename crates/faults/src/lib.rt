@@ -7,7 +7,8 @@
 ghost use Rattle.std.specs.Prelude.{◌≡◌};
 ghost use Rattle.faults.specs.declared.ChartFault.TheVariants.{Text as OfText};
 ghost use Rattle.faults.specs.declared.CodeFault.TheVariants.{Chart as OfChart};
-ghost use Rattle.faults.specs.declared.Fault.TheVariants.{Code as OfCode, File as OfFile, Trace as OfTrace, Controller as OfController, Image as OfImage};
+ghost use Rattle.faults.specs.declared.Fault.TheVariants.{Code as OfCode, File as OfFile, Trace as OfTrace};
+ghost use Rattle.faults.specs.declared.Fault.TheVariants.{Controller as OfController, Image as OfImage};
 
 mod numbers;
 pub mod show;

@@ -1,6 +1,8 @@
 //! The layer, the number and the place of a fault.
 ghost use Rattle.std.specs.Prelude.{◌≡◌};
-ghost use Rattle.faults.specs.Numbers.{layer_of, number_of, place_of, chart_layer, chart_number, chart_place, code_layer, code_number, code_place, text_number, text_place, file_number, file_place, pair_place, controller_number};
+ghost use Rattle.faults.specs.Numbers.{layer_of, number_of, place_of, chart_layer, chart_number, chart_place};
+ghost use Rattle.faults.specs.Numbers.{code_layer, code_number, code_place, text_number, text_place, file_number};
+ghost use Rattle.faults.specs.Numbers.{file_place, pair_place, controller_number};
 
 use crate::{ChartFault, CodeFault, ControllerFault, Fault, FileFault, Layer, Section, TextFault};
 

@@ -4,7 +4,7 @@ ghost use Rattle.grafcet.specs.Excerpts.{column_of, excerpt, shown_before, shown
 
 use std::alloc::{AllocError, Global};
 
-// So many bytes of a long line are shown before a place, and as many from it on.
+// The most bytes of a long line that are shown before a place, and the most from the place on.
 const MARGIN: usize = 100;
 
 // Where the line begins, or a hundred bytes before the place.

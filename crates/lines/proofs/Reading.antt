@@ -30,7 +30,7 @@ use Rattle.lines.specs.declared.shape.Line.TheVariants as code
 use Rattle.lines.specs.Grammar as line
 use Rattle.lines.specs.Grammar.{Numbers, one, more, items, digits, Small}
 use Rattle.lines.specs.Scan as automaton
-use Rattle.lines.specs.Scan.{State, Move, scan, step, follow, goes, done, fault, reads, fails, number, output, word, listed, initial, verb, guard, end, same, only, stepping, entering, transing, start, noted, refs, guarded}
+use Rattle.lines.specs.Scan.{State, Move, scan, step, follow, goes, done, fault, reads, fails, number, output, word, listed, verb, guard, end, same, only, transing, start, noted, refs, guarded}
 use Rattle.lines.specs.Parts.{going, ReadsNumber, ReadsWord, NoWord, ReadsEnd, ReadsList, NoList, LineFrom, QuietFrom, NoLineFrom, counted, numbers_in}
 use Rattle.lines.specs.Guards.{step_tests}
 
@@ -74,9 +74,6 @@ equal v w h = sym (decoded v) ∙ ap decode (true-eqb (automaton.code v) (automa
 apart : (v w : Word) (q : Bool) → same v w ≡ q → (w ≡ v → ⊥) → q ≡ false
 apart v w true h n = absurd (n (sym (equal v w h)))
 apart v w false h n = refl
-
-other_word : (w v : Word) (x : State) (at : ℕ) → (Keyword v ≡ Keyword w → ⊥) → only w x at v ≡ fault (Unexpected at)
-other_word w v x at n = ap (λ q. cond q (goes x) (fault (Unexpected at))) (apart w v (same w v) refl (λ e. n (ap (λ z. Keyword z) e)))
 
 -- an output that is reset
 unless_set : (n : Number) (at : ℕ) (k : TokenKind) → (k ≡ Keyword Set → ⊥) → step (verb n) at k ≡ step (word Reset (output (λ q. end (line.enter n action.Reset q)))) at k
@@ -161,8 +158,12 @@ comma_less ns w next rest l = alike Comma (listed ns w next) (word w (next ns)) 
 pub list_ended : {w : Word} {m : ℕ} {from rest left : Rest} {part : List Token} → ListSoFar w from rest → Lacks Comma rest.tokens.now → ReadsWord w rest left → m ≡ length from.tokens.now - length rest.tokens.now → part ≡ take m from.tokens.now → ReadsList w from part left
 list_ended {w} {m} {from} {rest} {left} {part} s l r em ep =
     let is : part ≡ s.part = ep ∙ used_part s.part rest.tokens.now from.tokens.now m s.split em in
+    let h = r.behind.heads in
     record {
       tree = s.tree;
+      word = h.0;
+      ends = h.1;
+      split = s.split ∙ ap (λ l. s.part ++ l) h.2 ∙ ap (λ p. p ++ h.0 ∷ left.tokens.now) (sym is);
       numbers = ap numbers_in is ∙ s.numbers;
       passes = λ k. s.passes k ∙ comma_less s.tree w k rest l ∙ r.passes (k s.tree);
       same_end = r.behind.same_end ∙ s.same_end;
@@ -299,7 +300,6 @@ tested k steps words n =
     pushed_append k (((steps ++ (instruction.AndOpen ∷ [])) ++ words) ++ (instruction.Close ∷ [])) (instruction.Store n ∷ []) ∙
     ap (λ z. pushed k z) (simp append_assoc)
 
--- a whole transition
 -- the words of a transition's test stand behind those of before, whatever follows
 pub grown_test : (k mid inside after : Kept) (steps words : List Instruction) (n : ℕ) → mid ≡ pushed (pushed k steps) (instruction.AndOpen ∷ []) → inside ≡ pushed mid words → after ≡ pushed (pushed inside (instruction.Close ∷ [])) (instruction.Store n ∷ []) → Grown k after
 grown_test k mid inside after steps words n em ei ea = record {
@@ -307,6 +307,7 @@ grown_test k mid inside after steps words n em ei ea = record {
   emitted = ea ∙ ap (λ z. pushed (pushed z (instruction.Close ∷ [])) (instruction.Store n ∷ [])) (ei ∙ ap (λ z. pushed z words) em) ∙ tested k steps words n;
 }
 
+-- a whole transition
 pub trans_reads : (t : Transition) (from r q s u rest left : Rest) (k mid inside after : Kept) (m : ℕ) → ReadsNumber from t.number r → ReadsWord From r q → ReadsList To q t.from.now s → ReadsList When s t.to.now u → mid ≡ pushed (pushed k (step_tests (numbers_in t.from.now))) (instruction.AndOpen ∷ []) → Wholly u mid rest inside → after ≡ pushed (pushed inside (instruction.Close ∷ [])) (instruction.Store t.number.value ∷ []) → m ≡ length u.tokens.now - length rest.tokens.now → t.condition.now ≡ take m u.tokens.now → ReadsEnd rest left → LineFrom transing from (code.Trans t) left k after
 trans_reads t from r q s u rest left k mid inside after m x y z v em w ea el ec o =
     let g = guard_reads t.number z.tree v.tree [] condition.start u.end u.tokens.now rest.tokens.now w.tree w.is in

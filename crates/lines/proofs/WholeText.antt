@@ -8,7 +8,7 @@ use Rattle.lines.specs.Grammar.{Tree, FitsLine}
 use Rattle.lines.specs.Scan.{State, Move, Scan, scan, step, follow, start, goes, done, fault, reads, fails}
 use Rattle.conditions.specs.declared.rest.Rest.{Rest}
 use Rattle.lines.specs.Next.{lines_left}
-use Rattle.lines.specs.Text.{read_lines, between, inside, onward, ended, put, before}
+use Rattle.lines.specs.Text.{read_lines, between, inside, onward, ended, put}
 use Rattle.lines.specs.Laws.{Begins, LinesUpTo, here, line, Spelled, StuckText}
 use Rattle.lines.proofs.Whole.{whole}
 use Rattle.lines.proofs.Sound.{sound, ends_shorter}
@@ -73,6 +73,11 @@ first_line (t ∷ ts) rest e l n h = on_from (t ∷ ts) start e l rest h
 pub first_fails : (ts : List Token) (e : ℕ) (f : TextFault) → 0 < length ts → scan ts start e ≡ fails f → read_lines ts between e ≡ Err f
 first_fails [] e f n h = absurd (omega arith)
 first_fails (t ∷ ts) e f n h = fails_from (t ∷ ts) start e f h
+
+-- several lines before those that follow
+abbrev pub before : List Tree → Result (List Tree) TextFault → Result (List Tree) TextFault
+before ls (Ok ms) = Ok (ls ++ ms)
+before ls (Err f) = Err f
 
 -- a loop over the lines: what is left, behind the lines that were read, gives the whole
 abbrev pub Left : Rest → List Tree → Rest → Type 0

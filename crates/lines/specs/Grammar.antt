@@ -46,7 +46,9 @@ spell_numbers (more ns n) = spell_numbers ns ++ kind Comma ∷ exactly (digits n
 
 -- a transition up to its condition
 abbrev pub prefix : Number → Numbers → Numbers → List Mark
-prefix n fs ts = kind (Keyword Trans) ∷ exactly (digits n) ∷ kind (Keyword From) ∷ (spell_numbers fs ++ kind (Keyword To) ∷ []) ++ (spell_numbers ts ++ kind (Keyword When) ∷ [])
+prefix n fs ts =
+    kind (Keyword Trans) ∷ exactly (digits n) ∷ kind (Keyword From) ∷
+    (spell_numbers fs ++ kind (Keyword To) ∷ []) ++ (spell_numbers ts ++ kind (Keyword When) ∷ [])
 
 -- a line without its end
 abbrev pub spell : Tree → List Mark
@@ -56,7 +58,8 @@ spell (step n false) = kind (Keyword Step) ∷ exactly (digits n) ∷ []
 spell (trans n fs ts c us) = prefix n fs ts ++ map kind (spell_cond c)
 spell (hold n q) = kind (Keyword Hold) ∷ exactly (digits n) ∷ exactly (output q) ∷ []
 spell (enter n action.Set q) = kind (Keyword Enter) ∷ exactly (digits n) ∷ kind (Keyword Set) ∷ exactly (output q) ∷ []
-spell (enter n action.Reset q) = kind (Keyword Enter) ∷ exactly (digits n) ∷ kind (Keyword Reset) ∷ exactly (output q) ∷ []
+spell (enter n action.Reset q) =
+    kind (Keyword Enter) ∷ exactly (digits n) ∷ kind (Keyword Reset) ∷ exactly (output q) ∷ []
 
 abbrev pub Meets : Token → Mark → Type 0
 Meets t (kind k) = t.kind ≡ k

@@ -1,7 +1,8 @@
 -- What the scan of a line means in words of the tree. Assumes nothing.
 use Rattle.std.specs.Prelude.{◌≡◌, ℕ, ◌+◌, ◌<◌, ◌≤◌, ◌⊎◌, List, [], ◌∷◌, ◌++◌, length}
 use Rattle.faults.specs.declared.TextFault.{TextFault}
-use Rattle.faults.specs.declared.TextFault.TheVariants.{TooLong, NoToken, TooManyDigits, Unexpected, EighthBracket, NumberTooLarge}
+use Rattle.faults.specs.declared.TextFault.TheVariants.{TooLong, NoToken, TooManyDigits, Unexpected, EighthBracket}
+use Rattle.faults.specs.declared.TextFault.TheVariants.{NumberTooLarge}
 use Rattle.text.specs.declared.token.Token.{Token}
 use Rattle.text.specs.declared.token.Letter.{Letter}
 use Rattle.text.specs.declared.token.TokenKind.TheVariants.{Digits, Operand, Open, LineEnd}
@@ -102,7 +103,9 @@ pub record Stuck (ts : List Token) (e : ℕ) (f : TextFault) : Type 0 where
 -- the tokens begin with these lines, one behind the other, and rest is what they leave
 pub data LinesUpTo : List Token → List Tree → List Token → Type 0 where
   here : {ts : List Token} → LinesUpTo ts [] ts
-  line : {t : Token} {ts rest left : List Token} {l : Tree} {ls : List Tree} → Begins l (t ∷ ts) rest → LinesUpTo rest ls left → LinesUpTo (t ∷ ts) (l ∷ ls) left
+  line :
+      {t : Token} {ts rest left : List Token} {l : Tree} {ls : List Tree} →
+      Begins l (t ∷ ts) rest → LinesUpTo rest ls left → LinesUpTo (t ∷ ts) (l ∷ ls) left
 
 -- the tokens are these lines
 abbrev pub Spelled : List Token → List Tree → Type 0

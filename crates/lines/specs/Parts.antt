@@ -4,7 +4,8 @@ use Rattle.text.specs.declared.token.Word.{Word}
 use Rattle.faults.specs.declared.TextFault.{TextFault}
 use Rattle.text.specs.declared.token.Token.{Token}
 use Rattle.text.specs.declared.token.TokenKind.{TokenKind}
-use Rattle.text.specs.declared.token.TokenKind.TheVariants.{Keyword, Digits, Operand, Comma, Dot, Plus, Bang, Open, Close, Slash, Backslash, LineEnd}
+use Rattle.text.specs.declared.token.TokenKind.TheVariants.{Keyword, Digits, Operand, Comma, Dot, Plus, Bang}
+use Rattle.text.specs.declared.token.TokenKind.TheVariants.{Open, Close, Slash, Backslash, LineEnd}
 use Rattle.words.specs.Emitted.{Kept, pushed}
 use Rattle.conditions.specs.declared.rest.Rest.{Rest}
 use Rattle.conditions.specs.Readers.{Behind}
@@ -15,7 +16,8 @@ use Rattle.lines.specs.declared.shape.Line.{Line}
 use Rattle.lines.specs.declared.shape.Line.TheVariants.{Empty, Step, Trans, Hold, Enter}
 use Rattle.lines.specs.Grammar as line
 use Rattle.lines.specs.Grammar.{Tree, Numbers, one, items, digits, Small, FitsLine}
-use Rattle.lines.specs.Scan.{State, Scan, scan, reads, fails, number, output, word, listed, initial, verb, end, up_to63, refs}
+use Rattle.lines.specs.Scan.{State, Scan, scan, reads, fails, number, output, word, listed, initial, verb, end}
+use Rattle.lines.specs.Scan.{up_to63, refs}
 use Rattle.lines.specs.Guards.{guard_words}
 use Rattle.lines.specs.Laws.{Begins}
 
@@ -89,6 +91,9 @@ pub record NoEnd (from : Rest) (f : TextFault) : Type 0 where
 -- a list, whose tokens are `part`, and the word that ends it
 pub record ReadsList (w : Word) (from : Rest) (part : List Token) (rest : Rest) : Type 0 where
   pub tree : Numbers
+  pub word : Token
+  pub ends : word.kind ≡ Keyword w
+  pub split : from.tokens.now ≡ part ++ word ∷ rest.tokens.now
   pub numbers : numbers_in part ≡ items tree
   pub passes : (k : Numbers → State) → going (number (λ n. listed (one n) w k)) from ≡ going (k tree) rest
   pub same_end : rest.end ≡ from.end
@@ -100,7 +105,9 @@ pub record NoList (w : Word) (from : Rest) (f : TextFault) : Type 0 where
 abbrev pub Shows : Line → Tree → Type 0
 Shows Empty l = l ≡ line.empty
 Shows (Step n b) l = l ≡ line.step n b
-Shows (Trans t) l = (fs : Numbers) × (ts : Numbers) × (c : Cond) × (l ≡ line.trans t.number fs ts c (refs t.condition.now)) × (numbers_in t.from.now ≡ items fs) × (numbers_in t.to.now ≡ items ts)
+Shows (Trans t) l =
+    (fs : Numbers) × (ts : Numbers) × (c : Cond) × (l ≡ line.trans t.number fs ts c (refs t.condition.now)) ×
+    (numbers_in t.from.now ≡ items fs) × (numbers_in t.to.now ≡ items ts)
 Shows (Hold n q) l = l ≡ line.hold n q
 Shows (Enter n a q) l = l ≡ line.enter n a q
 

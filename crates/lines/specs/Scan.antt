@@ -8,7 +8,8 @@ use Rattle.text.specs.declared.token.Letter.{Letter}
 use Rattle.text.specs.declared.token.Letter.TheVariants.{I, Q, X}
 use Rattle.text.specs.declared.token.Token.{Token}
 use Rattle.text.specs.declared.token.TokenKind.{TokenKind}
-use Rattle.text.specs.declared.token.TokenKind.TheVariants.{Keyword, Digits, Operand, Comma, Dot, Plus, Bang, Open, Close, Slash, Backslash, LineEnd}
+use Rattle.text.specs.declared.token.TokenKind.TheVariants.{Keyword, Digits, Operand, Comma, Dot, Plus, Bang, Open}
+use Rattle.text.specs.declared.token.TokenKind.TheVariants.{Close, Slash, Backslash, LineEnd}
 use Rattle.conditions.specs.Scan as condition
 use Rattle.lines.specs.declared.shape.Number.{Number}
 use Rattle.lines.specs.declared.shape.Action.TheVariants as action
@@ -53,7 +54,10 @@ abbrev pub stepping : State
 stepping = number (λ n. initial n)
 
 abbrev pub transing : State
-transing = number (λ n. word From (number (λ f. listed (one f) To (λ fs. number (λ t. listed (one t) When (λ ts. guard n fs ts [] condition.start))))))
+transing =
+    number (λ n. word From (
+    number (λ f. listed (one f) To (λ fs.
+    number (λ t. listed (one t) When (λ ts. guard n fs ts [] condition.start))))))
 
 abbrev pub holding : State
 holding = number (λ n. output (λ q. end (line.hold n q)))
@@ -114,7 +118,9 @@ abbrev pub only : Word → State → ℕ → Word → Move
 only w x at v = cond (same w v) (goes x) (fault (Unexpected at))
 
 abbrev pub verbs : Number → ℕ → Word → Move
-verbs n at v = cond (same Set v) (goes (output (λ q. end (line.enter n action.Set q)))) (only Reset (output (λ q. end (line.enter n action.Reset q))) at v)
+verbs n at v =
+    cond (same Set v) (goes (output (λ q. end (line.enter n action.Set q))))
+    (only Reset (output (λ q. end (line.enter n action.Reset q))) at v)
 
 abbrev pub ending : Tree → ℕ → TokenKind → Move
 ending l at k = by_word (λ v. fault (Unexpected at)) (done l) (fault (Unexpected at)) at k
@@ -157,8 +163,10 @@ step start at k = by_word (λ w. begins at w) (done line.empty) (fault (Unexpect
 step (number next) at k = by_digits (λ n. small at n next) (λ l n. fault (Unexpected at)) at k
 step (output next) at k = by_digits (λ n. fault (Unexpected at)) (λ l n. is_output at l n next) at k
 step (word w x) at k = by_word (λ v. only w x at v) (fault (Unexpected at)) (fault (Unexpected at)) at k
-step (listed ns w next) at k = by_word (λ v. only w (next ns) at v) (fault (Unexpected at)) (goes (number (λ n. listed (more ns n) w next))) at k
-step (initial n) at k = by_word (λ v. only Initial (end (line.step n true)) at v) (done (line.step n false)) (fault (Unexpected at)) at k
+step (listed ns w next) at k =
+    by_word (λ v. only w (next ns) at v) (fault (Unexpected at)) (goes (number (λ n. listed (more ns n) w next))) at k
+step (initial n) at k =
+    by_word (λ v. only Initial (end (line.step n true)) at v) (done (line.step n false)) (fault (Unexpected at)) at k
 step (verb n) at k = by_word (λ v. verbs n at v) (fault (Unexpected at)) (fault (Unexpected at)) at k
 step (guard n fs ts us x) at k = guarded n fs ts us (condition.step x at k) at k
 step (end l) at k = ending l at k

@@ -1,5 +1,5 @@
 -- The lines of a whole text: those between its line ends, an empty last line aside. Assumes nothing.
-use Rattle.std.specs.Prelude.{ℕ, List, [], ◌∷◌, ◌++◌, Ok, Err, Result}
+use Rattle.std.specs.Prelude.{ℕ, List, [], ◌∷◌, Ok, Err, Result}
 use Rattle.faults.specs.declared.TextFault.{TextFault}
 use Rattle.faults.specs.declared.TextFault.TheVariants.{Unexpected}
 use Rattle.text.specs.declared.token.Token.{Token}
@@ -16,14 +16,10 @@ abbrev pub wanted : Mode → State
 wanted between = start
 wanted (inside x) = x
 
--- a line, or several, before those that follow
+-- a line before those that follow
 abbrev pub put : Tree → Result (List Tree) TextFault → Result (List Tree) TextFault
 put l (Ok ls) = Ok (l ∷ ls)
 put l (Err f) = Err f
-
-abbrev pub before : List Tree → Result (List Tree) TextFault → Result (List Tree) TextFault
-before ls (Ok ms) = Ok (ls ++ ms)
-before ls (Err f) = Err f
 
 -- what a move gives: k goes on
 abbrev pub onward : Move → (Mode → Result (List Tree) TextFault) → Result (List Tree) TextFault

@@ -2,7 +2,7 @@
 ghost use Rattle.std.specs.Prelude.{◌≡◌, IfErr, MatchResult};
 ghost use Rattle.words.specs.Emitted.{kept_in};
 ghost use Rattle.conditions.specs.Readers.{Grown};
-ghost use Rattle.lines.specs.Scan.{scan, fails, start, stepping, transing, holding, entering};
+ghost use Rattle.lines.specs.Scan.{line_of, fails, start, stepping, transing, holding, entering};
 ghost use Rattle.lines.specs.Laws.{Only, Nowhere, Stuck};
 ghost use Rattle.lines.specs.Parts.{ReadsLine, LineFrom, QuietFrom, NoLineFrom};
 ghost use Rattle.lines.specs.Next.{NextLine};
@@ -18,14 +18,14 @@ use words::instruction::Instruction;
 use words::list::WordList;
 
 /// The line that the tokens begin with, and what is left behind its end. The words that test a transition are put behind
-/// those in `guards`. Refused, it has the words that it had before, and some words behind them; which, is open.
+/// those in `guards`. Refused, `guards` has the words that it had before, and some words behind them; which, is open.
 pub fn read_line<'a>(
     input: Rest<'a>,
     guards: &mut WordList,
 ) -> Result<(Line<'a>, Rest<'a>), TextFault>
     ensures reads { MatchResult result
         (λ p. ReadsLine start input.entry p.0 p.1 (kept_in guards.old) (kept_in guards.new))
-        (λ f. scan input.entry.tokens.now start input.entry.end ≡ fails f) }
+        (λ f. line_of input.entry.tokens.now input.entry.end ≡ fails f) }
     ensures only_tree { MatchResult result
         (λ p. Only input.entry.tokens.now p.1.tokens.now)
         (λ f. Nowhere input.entry.tokens.now) }
@@ -35,7 +35,8 @@ pub fn read_line<'a>(
     read(input, guards)
 }
 
-/// The next line of a text and what is left behind it, or None where no token is left. Of `guards`, see `read_line`.
+/// The next line of a text and what is left behind it, or None where no token is left. What `guards` then has, `read_line`
+/// says.
 pub fn next_line<'a>(
     input: Rest<'a>,
     guards: &mut WordList,

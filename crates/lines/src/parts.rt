@@ -69,7 +69,8 @@ pub(crate) fn finish<'a>(input: Rest<'a>) -> Result<Rest<'a>, TextFault>
     }
 }
 
-/// Numbers with `,` between them, and the word that ends them: the tokens of the list, and what is left behind the word.
+/// Numbers with `,` between them, and the word that ends them. Answers the tokens of the list, and what is left behind the
+/// word.
 pub(crate) fn list<'a>(input: Rest<'a>, until: Word) -> Result<(&'a [Token], Rest<'a>), TextFault>
     ensures { MatchResult result (λ p. ReadsList until input.entry p.0.now p.1) (λ f. NoList until input.entry f) }
 {

@@ -8,8 +8,8 @@ pub struct Number {
     pub place: usize,
 }
 
-/// A transition: the tokens of its preceding and of its succeeding steps, which are numbers with `,` between them, and those
-/// of its condition.
+/// A transition: the tokens of its preceding and of its succeeding steps, which are numbers with `,` between them, and
+/// those of its condition.
 #[derive(Clone, Copy, PartialEq, Eq, Debug)]
 pub struct Transition<'a> {
     pub number: Number,

@@ -1,5 +1,5 @@
 //! The steps that a transition's tokens name, and the words that test the preceding ones.
-ghost use Rattle.std.specs.Prelude.{◌≡◌, cond, [], ◌∷◌, MatchOption};
+ghost use Rattle.std.specs.Prelude.{◌≡◌, [], ◌∷◌, MatchOption};
 ghost use Rattle.words.specs.Emitted.{kept_in, pushed};
 ghost use Rattle.lines.specs.Scan.{noted, up_to63};
 ghost use Rattle.lines.specs.Parts.{counted, numbers_in};

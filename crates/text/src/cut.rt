@@ -12,8 +12,8 @@ use faults::TextFault;
 use room::Reserved;
 use std::alloc::{AllocError, Global};
 
-// The digits of the longest number.
-const MOST: usize = 4;
+// The most digits that a number may have.
+const MOST_DIGITS: usize = 4;
 
 // The letter of an operand.
 fn letter(b: u8) -> Option<Letter>
@@ -64,7 +64,7 @@ fn numeral(bytes: &[u8]) -> Option<(u16, usize)>
     ensures { result ≡ numeral bytes.now }
 {
     let n = digit_run(bytes);
-    if n > MOST {
+    if n > MOST_DIGITS {
         return None;
     }
     let mut value: u16 = 0;

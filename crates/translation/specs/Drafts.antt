@@ -6,7 +6,8 @@ use Rattle.words.specs.Emitted.{Kept, kept_in, nothing, pushed, joined}
 use Rattle.lines.specs.Grammar.{Tree, empty, step, trans, hold, enter}
 use Rattle.lines.specs.Guards.{guard_words}
 use Rattle.translation.specs.declared.draft.Draft.{Draft}
-use Rattle.translation.specs.Translation.{each, initial_frame, reset_words, set_words, enter_words, hold_words, clear_part, enter_part, hold_part}
+use Rattle.translation.specs.Translation.{each, initial_frame, reset_words, set_words, enter_words, hold_words}
+use Rattle.translation.specs.Translation.{clear_part, enter_part, hold_part}
 
 -- the initial steps, and what is kept of each list
 pub record Sketch : Type 0 where
@@ -54,7 +55,7 @@ started x (trans n fs ts c us) = x
 started x (hold n q) = x
 started x (enter n a q) = x
 
--- the frame with the lines of a text more
+-- the frame, with the bits of all initial steps of these lines on
 abbrev pub started_all : ℕ → List Tree → ℕ
 started_all x [] = x
 started_all x (l ∷ ls) = started_all (started x l) ls
@@ -71,7 +72,7 @@ noted d l =
       hold = pushed d.hold (hold_words l);
     }
 
--- with the lines of a text more
+-- with the lines of a text added
 abbrev pub read_all : Sketch → List Tree → Sketch
 read_all d ls =
     record {

@@ -5,7 +5,7 @@ use Rattle.lines.specs.Grammar.{Tree}
 use Rattle.codefile.specs.declared.write.Contents.{Contents}
 use Rattle.translation.specs.Translation.{initial_frame, clear_part, enter_part, hold_part}
 
--- how many words the part has that has the most
+-- the number of words in the longest part
 abbrev pub longest_part : List Tree → ℕ
 longest_part ls = max (length (clear_part ls)) (max (length (enter_part ls)) (length (hold_part ls)))
 

@@ -3,11 +3,13 @@ use Rattle.std.specs.Prelude.{ℕ, List, ◌++◌, codes, decimal}
 use Rattle.words.specs.declared.instruction.Part.{Part}
 use Rattle.words.specs.declared.instruction.Part.TheVariants as part
 use Rattle.words.specs.declared.instruction.Operand.{Operand}
-use Rattle.words.specs.declared.instruction.Operand.TheVariants.{Input, Step, Output, Rise, Fall, Always, Cleared, Before}
+use Rattle.words.specs.declared.instruction.Operand.TheVariants.{Input, Step, Output, Rise, Fall, Always, Cleared}
+use Rattle.words.specs.declared.instruction.Operand.TheVariants.{Before}
 use Rattle.words.specs.declared.instruction.Target.{Target}
 use Rattle.words.specs.declared.instruction.Target.TheVariants as target
 use Rattle.words.specs.declared.instruction.Instruction.{Instruction}
-use Rattle.words.specs.declared.instruction.Instruction.TheVariants.{Load, LoadNot, And, AndNot, Or, OrNot, AndOpen, OrOpen, Close, Not, Store, Set, Reset, Hold}
+use Rattle.words.specs.declared.instruction.Instruction.TheVariants.{Load, LoadNot, And, AndNot, Or, OrNot, AndOpen}
+use Rattle.words.specs.declared.instruction.Instruction.TheVariants.{OrOpen, Close, Not, Store, Set, Reset, Hold}
 
 abbrev pub part_name : Part → List ℕ
 part_name part.Clear = codes "clear"

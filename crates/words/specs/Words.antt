@@ -1,13 +1,16 @@
 -- Instruction words: operator times 2^24, plus area times 2^20, plus number times 2^14. Assumes nothing.
-use Rattle.std.specs.Prelude.{ℕ, ◌+◌, ◌*◌, ◌/◌, ◌%◌, Bool, true, false, not, ◌&&◌, ◌||◌, Some, None, Option, ◌==◌, nat_le, nat_lt, if◌then◌else◌}
+use Rattle.std.specs.Prelude.{ℕ, ◌+◌, ◌*◌, ◌/◌, ◌%◌, Bool, true, false, not, ◌&&◌, ◌||◌, Some, None, Option, ◌==◌}
+use Rattle.std.specs.Prelude.{nat_le, nat_lt, if◌then◌else◌}
 use Rattle.words.specs.declared.instruction.Part.{Part}
 use Rattle.words.specs.declared.instruction.Part.TheVariants as part
 use Rattle.words.specs.declared.instruction.Operand.{Operand}
-use Rattle.words.specs.declared.instruction.Operand.TheVariants.{Input, Step, Output, Rise, Fall, Always, Cleared, Before}
+use Rattle.words.specs.declared.instruction.Operand.TheVariants.{Input, Step, Output, Rise, Fall, Always, Cleared}
+use Rattle.words.specs.declared.instruction.Operand.TheVariants.{Before}
 use Rattle.words.specs.declared.instruction.Target.{Target}
 use Rattle.words.specs.declared.instruction.Target.TheVariants as target
 use Rattle.words.specs.declared.instruction.Instruction.{Instruction}
-use Rattle.words.specs.declared.instruction.Instruction.TheVariants.{Load, LoadNot, And, AndNot, Or, OrNot, AndOpen, OrOpen, Close, Not, Store, Set, Reset, Hold}
+use Rattle.words.specs.declared.instruction.Instruction.TheVariants.{Load, LoadNot, And, AndNot, Or, OrNot, AndOpen}
+use Rattle.words.specs.declared.instruction.Instruction.TheVariants.{OrOpen, Close, Not, Store, Set, Reset, Hold}
 
 -- ---- the word of an instruction
 abbrev pub packed : ℕ → ℕ → ℕ → ℕ

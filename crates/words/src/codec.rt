@@ -1,7 +1,9 @@
 //! From instructions to words and back.
 ghost use Rattle.std.specs.Prelude.{◌≡◌, ℕ, ◌<◌, Some};
 ghost use Rattle.words.specs.declared.instruction.Instruction.{Instruction as AnInstruction};
-ghost use Rattle.words.specs.Words.{packed, operand_area, operand_number, operator_in, area_in, number_in, word_of, admitted, encoded, operator_of, area_of, number_of, pairs, numbers, lawful, operand_at, target_at, instruction_at, decoded};
+ghost use Rattle.words.specs.Words.{packed, operand_area, operand_number, operator_in, area_in, number_in, word_of};
+ghost use Rattle.words.specs.Words.{admitted, encoded, operator_of, area_of, number_of, pairs, numbers, lawful};
+ghost use Rattle.words.specs.Words.{operand_at, target_at, instruction_at, decoded};
 
 use crate::instruction::{Instruction, Operand, Part, Target};
 
