@@ -17,6 +17,7 @@ use Rattle.conditions.specs.Laws.{bracketed, tally}
 use Rattle.conditions.proofs.Counts.{tally_append}
 use Rattle.conditions.proofs.Complete.{whole as whole-condition}
 use Rattle.lines.specs.declared.shape.Number.{Number}
+use Rattle.lines.specs.declared.shape.Action.{Action}
 use Rattle.lines.specs.declared.shape.Action.TheVariants as action
 use Rattle.lines.specs.Grammar as line
 use Rattle.lines.specs.Grammar.{Tree, Numbers, one, more, Mark, kind, exactly, digits, spell_numbers, prefix, spell, Meets, Matches, Small, AllSmall, FitsLine}
@@ -223,6 +224,20 @@ trans_reads n fs ts c us e u tail rest q f m d =
     ap (λ l. scan (l ++ tail) start e) p.is ∙ ap (λ l. scan l start e) (append_assoc p.one p.two tail) ∙ arrived (trans_gone n fs ts e p.one (p.two ++ tail) f.0 f.1 f.2 p.first) ∙
     condition_reads n fs ts c us e p.two tail rest q f.3 p.second (d ∙ ap refs p.is ∙ prefix_refs n fs ts p.one p.two p.first)
 
+-- an enter line, whose word w stands for the action a
+enter_reads : (w : Word) (a : Action) (n o : Number) (e : ℕ) (u tail rest : List Token) → Tail tail rest → Small n × Small o → Matches u (kind (Keyword Enter) ∷ exactly (digits n) ∷ kind (Keyword w) ∷ exactly (line.output o) ∷ []) → ((at : ℕ) → step (verb n) at (Keyword w) ≡ goes (output (λ q. end (line.enter n a q)))) → scan (u ++ tail) start e ≡ reads (line.enter n a o) rest
+enter_reads w a n o e u tail rest q f m s =
+    let l = line.enter n a o in
+    let O = output (λ q. end (line.enter n a q)) in
+    closing start l e u tail rest q
+    (then start entering (end l) e u tail (exactly (digits n) ∷ kind (Keyword w) ∷ exactly (line.output o) ∷ []) []
+    (go_kind (Keyword Enter) start entering e u tail (exactly (digits n) ∷ kind (Keyword w) ∷ exactly (line.output o) ∷ []) m (λ at. refl))
+    (λ v m1. then entering (verb n) (end l) e v tail (kind (Keyword w) ∷ exactly (line.output o) ∷ []) []
+    (go_number n (λ n. verb n) e v tail (kind (Keyword w) ∷ exactly (line.output o) ∷ []) f.0 m1)
+    (λ x m2. then (verb n) O (end l) e x tail (exactly (line.output o) ∷ []) []
+    (go_kind (Keyword w) (verb n) O e x tail (exactly (line.output o) ∷ []) m2 s)
+    (λ z m3. go_output o (λ q. end (line.enter n a q)) e z tail [] f.1 m3))))
+
 tail_reads : (l : Tree) (e : ℕ) (u tail rest : List Token) → Tail tail rest → FitsLine l → Matches u (spell l) → Uses l u → scan (u ++ tail) start e ≡ reads l rest
 tail_reads line.empty e u tail rest q f m d = ap (λ v. scan (v ++ tail) start e) (none_left u m) ∙ q.starts e
 tail_reads (line.step n true) e u tail rest q f m d =
@@ -246,28 +261,8 @@ tail_reads (line.hold n o) e u tail rest q f m d =
     (λ v m1. then holding (output (λ q. end (line.hold n q))) (end l) e v tail (exactly (line.output o) ∷ []) []
     (go_number n (λ n. output (λ q. end (line.hold n q))) e v tail (exactly (line.output o) ∷ []) f.0 m1)
     (λ w m2. go_output o (λ q. end (line.hold n q)) e w tail [] f.1 m2)))
-tail_reads (line.enter n action.Set o) e u tail rest q f m d =
-    let l = line.enter n action.Set o in
-    let O = output (λ q. end (line.enter n action.Set q)) in
-    closing start l e u tail rest q
-    (then start entering (end l) e u tail (exactly (digits n) ∷ kind (Keyword Set) ∷ exactly (line.output o) ∷ []) []
-    (go_kind (Keyword Enter) start entering e u tail (exactly (digits n) ∷ kind (Keyword Set) ∷ exactly (line.output o) ∷ []) m (λ at. refl))
-    (λ v m1. then entering (verb n) (end l) e v tail (kind (Keyword Set) ∷ exactly (line.output o) ∷ []) []
-    (go_number n (λ n. verb n) e v tail (kind (Keyword Set) ∷ exactly (line.output o) ∷ []) f.0 m1)
-    (λ w m2. then (verb n) O (end l) e w tail (exactly (line.output o) ∷ []) []
-    (go_kind (Keyword Set) (verb n) O e w tail (exactly (line.output o) ∷ []) m2 (λ at. refl))
-    (λ z m3. go_output o (λ q. end (line.enter n action.Set q)) e z tail [] f.1 m3))))
-tail_reads (line.enter n action.Reset o) e u tail rest q f m d =
-    let l = line.enter n action.Reset o in
-    let O = output (λ q. end (line.enter n action.Reset q)) in
-    closing start l e u tail rest q
-    (then start entering (end l) e u tail (exactly (digits n) ∷ kind (Keyword Reset) ∷ exactly (line.output o) ∷ []) []
-    (go_kind (Keyword Enter) start entering e u tail (exactly (digits n) ∷ kind (Keyword Reset) ∷ exactly (line.output o) ∷ []) m (λ at. refl))
-    (λ v m1. then entering (verb n) (end l) e v tail (kind (Keyword Reset) ∷ exactly (line.output o) ∷ []) []
-    (go_number n (λ n. verb n) e v tail (kind (Keyword Reset) ∷ exactly (line.output o) ∷ []) f.0 m1)
-    (λ w m2. then (verb n) O (end l) e w tail (exactly (line.output o) ∷ []) []
-    (go_kind (Keyword Reset) (verb n) O e w tail (exactly (line.output o) ∷ []) m2 (λ at. refl))
-    (λ z m3. go_output o (λ q. end (line.enter n action.Reset q)) e z tail [] f.1 m3))))
+tail_reads (line.enter n action.Set o) e u tail rest q f m d = enter_reads Set action.Set n o e u tail rest q f m (λ at. refl)
+tail_reads (line.enter n action.Reset o) e u tail rest q f m d = enter_reads Reset action.Reset n o e u tail rest q f m (λ at. refl)
 
 pub whole : (ts rest : List Token) (e : ℕ) (l : Tree) → Begins l ts rest → line_of ts e ≡ reads l rest
 whole ts rest e l b =

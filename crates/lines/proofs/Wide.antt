@@ -13,6 +13,7 @@ use Rattle.conditions.specs.Tree.{Cond}
 use Rattle.conditions.specs.Tree.{spell as spell_cond}
 use Rattle.conditions.proofs.Complete.{Limit, too_large, others, last, wide_cond}
 use Rattle.lines.specs.declared.shape.Number.{Number}
+use Rattle.lines.specs.declared.shape.Action.{Action}
 use Rattle.lines.specs.declared.shape.Action.TheVariants as action
 use Rattle.lines.specs.Grammar as line
 use Rattle.lines.specs.Grammar.{Tree, Numbers, one, more, Mark, kind, exactly, digits, spell_numbers, prefix, spell, Matches}
@@ -125,6 +126,20 @@ trans_outcome n fs ts c us e u m =
 ended : (e : ℕ) (u : List Token) → Outcome start e (u ++ []) → Outcome start e u
 ended e u o = subst (λ v. Outcome start e v) (append-nil u) o
 
+-- an enter line, whose word w stands for the action a
+enter_outcome : (w : Word) (a : Action) (n o : Number) (e : ℕ) (u : List Token) → Matches u (kind (Keyword Enter) ∷ exactly (digits n) ∷ kind (Keyword w) ∷ exactly (line.output o) ∷ []) → ((at : ℕ) → step (verb n) at (Keyword w) ≡ goes (output (λ q. end (line.enter n a q)))) → Outcome start e u
+enter_outcome w a n o e u m s =
+    let l = line.enter n a o in
+    let O = output (λ q. end (line.enter n a q)) in
+    ended e u (closing start (end l) l e u refl
+    (then start entering (end l) e u [] (exactly (digits n) ∷ kind (Keyword w) ∷ exactly (line.output o) ∷ []) []
+    (inl (go_kind (Keyword Enter) start entering e u [] (exactly (digits n) ∷ kind (Keyword w) ∷ exactly (line.output o) ∷ []) m (λ at. refl)))
+    (λ v m1. then entering (verb n) (end l) e v [] (kind (Keyword w) ∷ exactly (line.output o) ∷ []) []
+    (any_number n (λ n. verb n) e v [] (kind (Keyword w) ∷ exactly (line.output o) ∷ []) m1)
+    (λ x m2. then (verb n) O (end l) e x [] (exactly (line.output o) ∷ []) []
+    (inl (go_kind (Keyword w) (verb n) O e x [] (exactly (line.output o) ∷ []) m2 s))
+    (λ z m3. any_output o (λ q. end (line.enter n a q)) e z [] [] m3)))))
+
 pub outcome : (l : Tree) (e : ℕ) (u : List Token) → Matches u (spell l) → Outcome start e u
 outcome line.empty e u m = inl (line.empty, ap (λ v. scan v start e) (none_left u m))
 outcome (line.step n true) e u m =
@@ -150,25 +165,5 @@ outcome (line.hold n o) e u m =
     (λ v m1. then holding (output (λ q. end (line.hold n q))) (end l) e v [] (exactly (line.output o) ∷ []) []
     (any_number n (λ n. output (λ q. end (line.hold n q))) e v [] (exactly (line.output o) ∷ []) m1)
     (λ w m2. any_output o (λ q. end (line.hold n q)) e w [] [] m2))))
-outcome (line.enter n action.Set o) e u m =
-    let l = line.enter n action.Set o in
-    let O = output (λ q. end (line.enter n action.Set q)) in
-    ended e u (closing start (end l) l e u refl
-    (then start entering (end l) e u [] (exactly (digits n) ∷ kind (Keyword Set) ∷ exactly (line.output o) ∷ []) []
-    (inl (go_kind (Keyword Enter) start entering e u [] (exactly (digits n) ∷ kind (Keyword Set) ∷ exactly (line.output o) ∷ []) m (λ at. refl)))
-    (λ v m1. then entering (verb n) (end l) e v [] (kind (Keyword Set) ∷ exactly (line.output o) ∷ []) []
-    (any_number n (λ n. verb n) e v [] (kind (Keyword Set) ∷ exactly (line.output o) ∷ []) m1)
-    (λ w m2. then (verb n) O (end l) e w [] (exactly (line.output o) ∷ []) []
-    (inl (go_kind (Keyword Set) (verb n) O e w [] (exactly (line.output o) ∷ []) m2 (λ at. refl)))
-    (λ z m3. any_output o (λ q. end (line.enter n action.Set q)) e z [] [] m3)))))
-outcome (line.enter n action.Reset o) e u m =
-    let l = line.enter n action.Reset o in
-    let O = output (λ q. end (line.enter n action.Reset q)) in
-    ended e u (closing start (end l) l e u refl
-    (then start entering (end l) e u [] (exactly (digits n) ∷ kind (Keyword Reset) ∷ exactly (line.output o) ∷ []) []
-    (inl (go_kind (Keyword Enter) start entering e u [] (exactly (digits n) ∷ kind (Keyword Reset) ∷ exactly (line.output o) ∷ []) m (λ at. refl)))
-    (λ v m1. then entering (verb n) (end l) e v [] (kind (Keyword Reset) ∷ exactly (line.output o) ∷ []) []
-    (any_number n (λ n. verb n) e v [] (kind (Keyword Reset) ∷ exactly (line.output o) ∷ []) m1)
-    (λ w m2. then (verb n) O (end l) e w [] (exactly (line.output o) ∷ []) []
-    (inl (go_kind (Keyword Reset) (verb n) O e w [] (exactly (line.output o) ∷ []) m2 (λ at. refl)))
-    (λ z m3. any_output o (λ q. end (line.enter n action.Reset q)) e z [] [] m3)))))
+outcome (line.enter n action.Set o) e u m = enter_outcome Set action.Set n o e u m (λ at. refl)
+outcome (line.enter n action.Reset o) e u m = enter_outcome Reset action.Reset n o e u m (λ at. refl)
