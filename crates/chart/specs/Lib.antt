@@ -5,3 +5,4 @@ pub mod Sets
 pub mod Findings
 pub mod Seen
 pub mod First
+pub mod Fresh

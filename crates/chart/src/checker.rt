@@ -1,9 +1,9 @@
 //! The checks over a whole text.
-ghost use Rattle.std.specs.Prelude.{◌≡◌, [], IfOk};
+ghost use Rattle.std.specs.Prelude.{◌≡◌, IfOk};
 ghost use Rattle.lines.specs.Next.{lines_left};
 ghost use Rattle.chart.specs.Checks.{checked};
 ghost use Rattle.chart.specs.First.{FirstFault};
-ghost use Rattle.chart.specs.Seen.{Remembers};
+ghost use Rattle.chart.specs.Fresh.{Fresh};
 
 use crate::passes::{find_declared, find_fault};
 use crate::seen::Seen;
@@ -23,7 +23,7 @@ pub struct Checker {
 impl Checker {
     /// Room for the checks of any text.
     pub fn new(heap: Global) -> Result<Checker, AllocError>
-        ensures { IfOk result (λ c. Remembers c.seen []) }
+        ensures { IfOk result (λ c. Fresh c) }
     {
         let declared = NumberSet::new(heap)?;
         let seen = Seen::new(heap)?;

@@ -11,9 +11,11 @@ text texts k = slice_index_or texts k []
 abbrev pub Says : List (List ℕ) → List ℕ → ℕ → Type 0
 Says texts word n = (length texts ≡ 2 + n) × (text texts 1 ≡ word)
 
+-- no such command
 abbrev pub Silent : List (List ℕ) → List ℕ → ℕ → Type 0
 Silent texts word n = length texts ≡ 2 + n → text texts 1 ≢ word
 
+-- the command that the texts are; none where they are more than the program's name and no command
 abbrev pub Asks : List (List ℕ) → Option Command → Type 0
 Asks texts (Some Demo) = length texts ≤ 1
 Asks texts (Some (Compile chart out)) =
