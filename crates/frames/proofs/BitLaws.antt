@@ -5,6 +5,7 @@ use lib.Bits.{bit_and, bit_or, and_step, or_step, or_lt, and_le_l}
 use Rattle.std.proofs.lemmas.Nat.{shr-shr, pow_below}
 use Rattle.std.proofs.lemmas.Bool.{cond-true, cond-false, cases_Bool, ltb-true, ltb-false}
 use Rattle.std.proofs.lemmas.Bool.Decides.{nat_tests}
+use Rattle.frames.specs.Edges.{only_in}
 use Rattle.frames.specs.Bits.{bit, mask, on, off, TurnedOn, TurnedOff, pack}
 
 pub bit_zero : (x : ℕ) → bit 0 x ≡ eqb (x % 2) 1
@@ -174,3 +175,10 @@ bit_pack (suc k) f (suc n) l = bit_high n (pack k (λ n. f (suc n))) (f 0) ∙ b
 -- the number with given bits
 pub packs : (k x : ℕ) (f : ℕ → Bool) → x < 2 ^ k → ((n : ℕ) → n < k → bit n x ≡ f n) → x ≡ pack k f
 packs k x f hx h = same_bits k x (pack k f) hx (pack_fits k f) (λ n l. h n l ∙ sym (bit_pack k f n l))
+
+-- ---- the bits that two frames do not share
+pub only_in_packs : (x y : ℕ) → x < 2 ^ 64 → y < 2 ^ 64 → bit_and x (2 ^ 64 - 1 - y) ≡ only_in x y
+unfolding only_in
+only_in_packs x y hx hy =
+    packs 64 (bit_and x (2 ^ 64 - 1 - y)) _ (omega (arith, and_le_l x (2 ^ 64 - 1 - y)))
+    (λ n l. bit_and_lem n x (2 ^ 64 - 1 - y) ∙ ap (λ b. bit n x && b) (bit_rest 64 n y hy l))

@@ -1,0 +1,4 @@
+pub mod Chart
+pub mod Rules
+pub mod Words
+pub mod Agreement

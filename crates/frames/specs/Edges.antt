@@ -1,0 +1,17 @@
+-- The edges of the inputs. Assumes nothing.
+use Rattle.std.specs.Prelude.{ℕ, not, ◌&&◌, Some, None, Option}
+use Rattle.frames.specs.Bits.{bit, pack}
+use Rattle.frames.specs.declared.edges.Edges.{Edges}
+
+-- the bits that are on in one frame and off in the other
+unfoldable pub only_in : ℕ → ℕ → ℕ
+only_in frame other = pack 64 (λ n. bit n frame && not (bit n other))
+
+abbrev pub no_edges : Edges
+no_edges = record { rises = 0; falls = 0 }
+
+-- an input rises when it is on in this frame and off in the previous one, and falls in the reverse case; where there is no
+-- previous frame, no edge is true
+abbrev pub edges_between : Option ℕ → ℕ → Edges
+edges_between None frame = no_edges
+edges_between (Some previous) frame = record { rises = only_in frame previous; falls = only_in previous frame }

@@ -1,0 +1,40 @@
+//! The edges of the inputs, from one frame to the next.
+ghost use Rattle.std.specs.Prelude.{◌≡◌};
+ghost use Rattle.frames.specs.Edges.{only_in, no_edges, edges_between};
+
+/// The inputs that rise and those that fall.
+#[derive(Clone, Copy, PartialEq, Eq, Debug)]
+pub struct Edges {
+    pub rises: u64,
+    pub falls: u64,
+}
+
+// The bits that are on in one frame and off in the other.
+#[tactic(auto, using(crate::proofs::BitLaws::only_in_packs))]
+fn on_only(frame: u64, other: u64) -> u64
+    ensures { result ≡ only_in frame other }
+{
+    frame & !other
+}
+
+impl Edges {
+    /// Every edge false.
+    pub fn none() -> Edges
+        ensures { result ≡ no_edges }
+    {
+        Edges { rises: 0, falls: 0 }
+    }
+
+    /// What rises and what falls from the previous frame to this one; where there is none, no edge is true.
+    pub fn between(previous: Option<u64>, frame: u64) -> Edges
+        ensures { result ≡ edges_between previous frame }
+    {
+        match previous {
+            None => Edges::none(),
+            Some(before) => Edges {
+                rises: on_only(frame, before),
+                falls: on_only(before, frame),
+            },
+        }
+    }
+}
