@@ -6,11 +6,10 @@ use Rattle.codefile.specs.Loads.{code_in}
 use Rattle.frames.specs.Bits.{bit}
 use Rattle.frames.specs.Edges.{no_edges}
 use Rattle.frames.proofs.BitLaws.{bit_nought}
-use Rattle.lines.specs.Grammar.{Tree, enter}
-use Rattle.lines.specs.declared.shape.Action.TheVariants as action
+use Rattle.lines.specs.Grammar.{Tree}
 use Rattle.translation.specs.Translation.{enter_part}
 use Rattle.machine.specs.declared.memory.Memory.{Memory}
-use Rattle.machine.specs.Machine.{Machine, begin, run, after}
+use Rattle.machine.specs.Machine.{begin, run, after}
 use Rattle.evolution.specs.declared.state.State.{State}
 use Rattle.evolution.specs.Chart.{Chart, Entry, entries_in, chart_of_lines}
 use Rattle.evolution.specs.Rules as rules
@@ -18,14 +17,7 @@ use Rattle.evolution.specs.Rules.{acted, entered, newly_active}
 use Rattle.evolution.specs.Words.{showing, state_in, start}
 use Rattle.evolution.specs.Agreement.{CompiledFrom}
 use Rattle.evolution.proofs.Lawful.{chart_instructions}
-
--- X and Q after the enter lines
-enter_run : (ls : List Tree) (m : Machine) →
-    state_in (run (enter_part ls) m).memory ≡ record { active = m.memory.active; stored = entered (newly_active m.memory.before m.memory.active) (entries_in ls) m.memory.stored }
-enter_run [] m = refl
-enter_run (enter n action.Set q ∷ ls) m = enter_run ls _
-enter_run (enter n action.Reset q ∷ ls) m = enter_run ls _
-enter_run (_ ∷ ls) m = enter_run ls m
+use Rattle.evolution.proofs.Running.{enter_run}
 
 -- what is on of the initial steps was not before
 and_on : (a : Bool) → (a && not false) ≡ a
@@ -43,7 +35,7 @@ abbrev begun : ℕ → Memory
 begun initial = showing 0 no_edges (record { active = initial; stored = 0 })
 
 start_run : (ls : List Tree) (x : ℕ) → state_in (run (enter_part ls) (begin (begun x))).memory ≡ record { active = x; stored = entered (λ n. bit n x) (entries_in ls) 0 }
-start_run ls x = enter_run ls (begin (begun x)) ∙ ap (λ (q : ℕ). let s : State = record { active = x; stored = q } in s) (entered_first (entries_in ls) x 0)
+start_run ls x = ap state_in (enter_run ls (begin (begun x))) ∙ ap (λ (q : ℕ). let s : State = record { active = x; stored = q } in s) (entered_first (entries_in ls) x 0)
 
 pub start_as : (c : Chart) (p : Program) → CompiledFrom c p → start p ≡ rules.start c
 unfolding after
