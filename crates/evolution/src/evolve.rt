@@ -1,0 +1,85 @@
+//! How a state goes on, by the words of a program.
+ghost use Rattle.std.specs.Prelude.{◌≡◌};
+ghost use Rattle.evolution.specs.Agreement.{CompiledFrom};
+ghost use Rattle.evolution.specs.Chart.{Chart};
+ghost use Rattle.evolution.specs.Rules.{start as start_by_rules, output_frame as outputs_by_rules};
+ghost use Rattle.evolution.specs.Words.{showing, state_in, ran, reached, start, output_frame};
+
+use crate::state::State;
+use codefile::program::Program;
+use frames::edges::Edges;
+use machine::memory::Memory;
+use words::instruction::Part;
+
+impl State {
+    // The memory with this state, the inputs and the edges, and all else empty.
+    fn shown(self, inputs: u64, edges: Edges) -> Memory
+        ensures { result ≡ showing inputs edges self }
+    {
+        Memory {
+            active: self.active,
+            stored: self.stored,
+            before: 0,
+            cleared: 0,
+            held: 0,
+            inputs,
+            rises: edges.rises,
+            falls: edges.falls,
+        }
+    }
+
+    // X and Q.
+    fn of(memory: Memory) -> State
+        ensures { result ≡ state_in memory }
+    {
+        State {
+            active: memory.active,
+            stored: memory.stored,
+        }
+    }
+
+    // What an evolution has led to; None where nothing is cleared.
+    fn reached(memory: Memory) -> Option<State>
+        ensures { result ≡ reached memory }
+    {
+        (memory.cleared != 0).then(|| State::of(memory))
+    }
+
+    /// The start state of a program: its initial steps, after their enter lines.
+    #[tactic(auto, using(crate::proofs::Starting::start_as))]
+    pub fn start(program: &Program) -> State
+        ensures words { result ≡ start program.now }
+        ensures chart { (c : Chart) → CompiledFrom c program.now → result ≡ start_by_rules c }
+    {
+        let initial = State {
+            active: program.initial(),
+            stored: 0,
+        };
+        let mut memory = initial.shown(0, Edges::none());
+        memory.run(program, Part::Enter);
+        State::of(memory)
+    }
+
+    /// The state after one evolution, or None where nothing is cleared, so that this state is kept.
+    #[tactic(auto, unfolding(crate::specs::Words::ran))]
+    pub fn evolve(self, program: &Program, inputs: u64, edges: Edges) -> Option<State>
+        ensures words { result ≡ reached (ran program.now inputs edges self) }
+    {
+        let mut memory = self.shown(inputs, edges);
+        memory.before = memory.active;
+        memory.run(program, Part::Clear);
+        memory.run(program, Part::Enter);
+        State::reached(memory)
+    }
+
+    /// The output frame of the state: its stored outputs and the held ones.
+    #[tactic(auto, using(crate::proofs::Holding::outputs_as))]
+    pub fn outputs(self, program: &Program, inputs: u64) -> u64
+        ensures words { result ≡ output_frame program.now inputs self }
+        ensures chart { (c : Chart) → CompiledFrom c program.now → result ≡ outputs_by_rules c self }
+    {
+        let mut memory = self.shown(inputs, Edges::none());
+        memory.run(program, Part::Hold);
+        memory.stored | memory.held
+    }
+}
