@@ -1,3 +1,4 @@
 pub mod Numbered
 pub mod Running
 pub mod Switching
+pub mod Marking
