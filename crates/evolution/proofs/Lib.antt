@@ -2,3 +2,4 @@ pub mod Numbered
 pub mod Running
 pub mod Switching
 pub mod Marking
+pub mod Evolving
