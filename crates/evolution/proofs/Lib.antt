@@ -1,5 +1,8 @@
 pub mod Numbered
+pub mod Lawful
 pub mod Running
+pub mod Holding
+pub mod Starting
 pub mod Switching
 pub mod Marking
 pub mod Evolving
