@@ -3,3 +3,6 @@ pub mod Lawful
 pub mod Running
 pub mod Holding
 pub mod Starting
+pub mod Switching
+pub mod Marking
+pub mod Evolving
