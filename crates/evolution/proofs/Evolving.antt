@@ -1,11 +1,11 @@
 -- The words of a clear and an enter part make the chart's evolution, and at rest nothing changes. Assumes nothing.
 use Rattle.std.proofs.Common.{◌≡◌, ℕ, ◌<◌, ◌^◌, Bool, true, false, cond, not, ◌&&◌, ◌||◌, ◌==◌, List, [], ◌∷◌, ◌++◌, eqb, ltb, refl, sym, ap, ap₂, ◌∙◌, ⊎_elim, arith}
 use Rattle.std.specs.List.{list_any, list_all}
-use Rattle.std.proofs.lemmas.Bool.{and_parts, or_parts, and_left, ltb-true, eqb-true, eq-eqb, ne_eqb, not-true, cases_Bool, both_ways}
-use Rattle.frames.specs.Bits.{bit, pack}
+use Rattle.std.proofs.lemmas.Bool.{and_parts, or_parts, and_left, ltb-true, eq-eqb, ne_eqb, not-true, cases_Bool, both_ways}
+use Rattle.std.proofs.Math.Bool.{or_comm, and-true, and-not_self}
+use Rattle.frames.specs.Bits.{bit}
 use Rattle.frames.specs.declared.edges.Edges.{Edges}
-use Rattle.frames.proofs.BitLaws.{bit_nought, bit_pack, pack_fits, packs}
-use Rattle.lines.specs.declared.shape.Action.{Action}
+use Rattle.frames.proofs.BitLaws.{bit_nought, bit_pack, packs}
 use Rattle.lines.specs.declared.shape.Action.TheVariants.{Set, Reset}
 use Rattle.lines.specs.Grammar.{Tree}
 use Rattle.lines.specs.Guards.{guard_words}
@@ -16,7 +16,7 @@ use Rattle.evolution.specs.declared.state.State.{State}
 use Rattle.evolution.specs.Chart.{Chart, Transition, Entry, transitions_in, entries_in, chart_of_lines}
 use Rattle.evolution.specs.Rules.{Situation, clearable, member, active_after, steps_after, acted, entered, newly_active, evolved, at_rest}
 use Rattle.evolution.specs.Words.{showing, prepared}
-use Rattle.evolution.proofs.Numbered.{Numbered, apart}
+use Rattle.evolution.proofs.Numbered.{Numbered}
 use Rattle.evolution.proofs.Running.{situation_in, run_append, enter_run}
 use Rattle.evolution.proofs.Switching.{with_active, switched, bit_switched, switched_fits, preceding, succeeding, resets_run, sets_run}
 use Rattle.evolution.proofs.Marking.{marks, marks_frame, marked, cleared_frame, tests_run}
@@ -42,12 +42,6 @@ clear_run ls x =
     ∙ ap (λ (y : Memory). with_active (switched Set succeeding y.cleared ts) y) (resets_run ls tested)
     ∙ ap (λ (y : Memory). with_active (all_switched ts y.cleared) y) (tests_run ls (begin x))
 
-or_comm : (a b : Bool) → (a || b) ≡ (b || a)
-or_comm true true = refl
-or_comm true false = refl
-or_comm false true = refl
-or_comm false false = refl
-
 switched_steps : (ts : List Transition) (s : Situation) → Numbered ts → s.state.active < 2 ^ 64 → all_switched ts (marks ts s 0) s.state.active ≡ steps_after ts s
 switched_steps ts s k h = packs 64 (all_switched ts done x) (active_after ts s) (switched_fits Set succeeding done ts _ (switched_fits Reset preceding done ts x h)) each_bit
   where
@@ -71,21 +65,21 @@ abbrev pub ran_lines : List Tree → ℕ → Edges → State → Memory
 ran_lines ls inputs edges s =
     (run (enter_part ls) (begin (run (clear_part ls) (begin (prepared (showing inputs edges s)))).memory)).memory
 
--- the memory with the state after the chart's evolution, the steps before it, and the cleared transitions
-abbrev pub evolved_memory : List Tree → ℕ → Edges → State → Memory
-evolved_memory ls inputs edges s =
+-- the memory with the state after a chart's evolution, the steps before it, and the cleared transitions
+abbrev pub evolved_memory : Chart → ℕ → Edges → State → Memory
+evolved_memory c inputs edges s =
     record {
-      active = (evolved (chart_of_lines ls) inputs edges s).active;
-      stored = (evolved (chart_of_lines ls) inputs edges s).stored;
+      active = (evolved c inputs edges s).active;
+      stored = (evolved c inputs edges s).stored;
       before = s.active;
-      cleared = cleared_frame (transitions_in ls) (situation inputs edges s);
+      cleared = cleared_frame c.transitions (situation inputs edges s);
       held = 0;
       inputs = inputs;
       rises = edges.rises;
       falls = edges.falls;
     }
 
-pub parts_evolve : (ls : List Tree) (inputs : ℕ) (edges : Edges) (s : State) → Numbered (transitions_in ls) → s.active < 2 ^ 64 → ran_lines ls inputs edges s ≡ evolved_memory ls inputs edges s
+pub parts_evolve : (ls : List Tree) (inputs : ℕ) (edges : Edges) (s : State) → Numbered (transitions_in ls) → s.active < 2 ^ 64 → ran_lines ls inputs edges s ≡ evolved_memory (chart_of_lines ls) inputs edges s
 unfolding evolved
 parts_evolve ls inputs edges s k h =
     let x : Memory = prepared (showing inputs edges s) in
@@ -95,24 +89,12 @@ parts_evolve ls inputs edges s k h =
     ∙ ap (λ (y : Memory). with_state y.active (entered (newly_active y.before y.active) (entries_in ls) y.stored) y) (clear_run ls x)
     ∙ ap₂ (λ (n t : ℕ). with_state n (entered (newly_active s.active n) (entries_in ls) s.stored) (with_cleared t x)) (switched_steps ts sit k h) (marks_frame ts sit k.apart)
 
-pub evolved_fits : (c : Chart) (inputs : ℕ) (edges : Edges) (s : State) → (evolved c inputs edges s).active < 2 ^ 64
-unfolding evolved
-evolved_fits c inputs edges s = pack_fits 64 (active_after c.transitions (situation inputs edges s))
-
 -- ---- at rest
 none_both : (r : Transition → Bool) (ts : List Transition) (s : Situation) → list_any (λ t. clearable t s) ts ≡ false → list_any (λ t. clearable t s && r t) ts ≡ false
 none_both r [] s h = refl
 none_both r (t ∷ ts) s h =
     let p = or_parts (clearable t s) (list_any (λ t. clearable t s) ts) h in
     ap₂ (λ x y. x || y) (and_left (clearable t s) (r t) p.0) (none_both r ts s p.1)
-
-and_true : (b : Bool) → (false || (b && not false)) ≡ b
-and_true true = refl
-and_true false = refl
-
-not_both : (b : Bool) → (b && not b) ≡ false
-not_both true = refl
-not_both false = refl
 
 entered_none : (went : ℕ → Bool) → ((n : ℕ) → went n ≡ false) → (es : List Entry) (q : ℕ) → entered went es q ≡ q
 entered_none went h [] q = refl
@@ -125,7 +107,7 @@ steps_stay ts s fits h =
     (λ n l.
     sym
     (ap₂ (λ a d. a || (bit n s.state.active && not d)) (none_both (λ t. member n t.succeeding) ts s h) (none_both (λ t. member n t.preceding) ts s h)
-    ∙ and_true (bit n s.state.active))))
+    ∙ and-true (bit n s.state.active))))
 
 abbrev state_at : Chart → State → ℕ → State
 state_at c s x = record { active = x; stored = entered (newly_active s.active x) c.entries s.stored }
@@ -136,7 +118,7 @@ unfolding evolved at_rest
 evolved_stays c inputs edges s fits h =
     let sit : Situation = situation inputs edges s in
     ap (state_at c s) (steps_stay c.transitions sit fits (not-true (list_any (λ t. clearable t sit) c.transitions) h))
-    ∙ ap (λ q. record { active = s.active; stored = q }) (entered_none (newly_active s.active s.active) (λ n. not_both (bit n s.active)) c.entries s.stored)
+    ∙ ap (λ q. record { active = s.active; stored = q }) (entered_none (newly_active s.active s.active) (λ n. and-not_self (bit n s.active)) c.entries s.stored)
 
 -- ---- T is empty exactly at rest
 none_clearable_at : (n : ℕ) (ts : List Transition) (s : Situation) → list_any (λ t. clearable t s) ts ≡ false → list_any (λ t. n == t.number && clearable t s) ts ≡ false
@@ -173,6 +155,6 @@ cleared_none ts s k = ⊎_elim some none (cases_Bool (list_any (λ t. clearable 
     none : list_any (λ t. clearable t s) ts ≡ false → (cleared_frame ts s == 0) ≡ not (list_any (λ t. clearable t s) ts)
     none h = eq-eqb (cleared_frame ts s) 0 (cleared_empty ts s h) ∙ sym (ap not h)
 
-pub empty_at_rest : (ls : List Tree) (inputs : ℕ) (edges : Edges) (s : State) → Numbered (transitions_in ls) → (cleared_frame (transitions_in ls) (situation inputs edges s) == 0) ≡ at_rest (chart_of_lines ls) inputs edges s
+pub empty_at_rest : (c : Chart) (inputs : ℕ) (edges : Edges) (s : State) → Numbered c.transitions → (cleared_frame c.transitions (situation inputs edges s) == 0) ≡ at_rest c inputs edges s
 unfolding at_rest
-empty_at_rest ls inputs edges s k = cleared_none (transitions_in ls) (situation inputs edges s) k
+empty_at_rest c inputs edges s k = cleared_none c.transitions (situation inputs edges s) k

@@ -6,3 +6,4 @@ pub mod Starting
 pub mod Switching
 pub mod Marking
 pub mod Evolving
+pub mod Agreeing

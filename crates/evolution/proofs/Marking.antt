@@ -1,14 +1,15 @@
 -- What the tests of the transitions do to T. Assumes nothing.
-use Rattle.std.proofs.Common.{◌≡◌, ℕ, ◌<◌, ◌^◌, Bool, true, false, cond, not, ◌&&◌, ◌||◌, ◌==◌, List, [], ◌∷◌, ◌++◌, map, All, eqb, ltb, refl, sym, ap, ap₂, ◌∙◌, arith}
+use Rattle.std.proofs.Common.{◌≡◌, ℕ, ◌<◌, ◌^◌, Bool, true, false, cond, not, ◌&&◌, ◌||◌, ◌==◌, List, [], ◌∷◌, ◌++◌, map, eqb, ltb, refl, sym, ap, ap₂, ◌∙◌, arith}
 use Rattle.std.specs.List.{list_any, list_all}
-use Rattle.std.proofs.lemmas.Bool.{and_parts, or_parts, ltb-true, eqb-true, eq-eqb, not-true, false≢true, true≢false}
+use Rattle.std.proofs.lemmas.Bool.{and_parts, or_parts, ltb-true, eqb-true, eq-eqb, not-true, true≢false}
+use Rattle.std.proofs.Math.Bool.{and_assoc, and-true}
 use Rattle.frames.specs.Bits.{bit, pack}
 use Rattle.frames.proofs.BitLaws.{bit_on, bit_off, bit_nought, on_fits, off_fits, packs}
 use Rattle.words.specs.declared.instruction.Instruction.{Instruction}
 use Rattle.words.specs.declared.instruction.Instruction.TheVariants.{AndOpen, Store}
 use Rattle.conditions.specs.Tree.{Cond, words, enclosed}
 use Rattle.lines.specs.declared.shape.Number.{Number}
-use Rattle.lines.specs.Grammar.{Tree, Numbers, one, more, items, empty, step, trans, hold, enter}
+use Rattle.lines.specs.Grammar.{Tree, Numbers, one, more, items, trans}
 use Rattle.lines.specs.Guards.{step_test, step_tests, transition_test, guard_words}
 use Rattle.lines.proofs.Testing.{none_yet, empty_yet}
 use Rattle.translation.specs.Translation.{each}
@@ -24,16 +25,8 @@ use Rattle.evolution.proofs.Running.{situation_in, run_append, and_bracket, cond
 abbrev all_active : List ℕ → Memory → Bool
 all_active ns x = list_all (λ n. bit n x.active) ns
 
-and_assoc : (a b c : Bool) → ((a && b) && c) ≡ (a && (b && c))
-and_assoc true b c = refl
-and_assoc false b c = refl
-
-and_true : (a : Bool) → a ≡ (a && true)
-and_true true = refl
-and_true false = refl
-
 others_run : (ns : List Number) (m : Machine) → run (map (λ k. step_test false k) ns) m ≡ load (m.result && all_active (map (λ n. n.value) ns) m.memory) m
-others_run [] m = ap (λ (b : Bool). load b m) (and_true m.result)
+others_run [] m = ap (λ (b : Bool). load b m) (sym (and-true m.result))
 others_run (n ∷ ns) m =
     others_run ns (machine.step (step_test false n) m)
     ∙ ap (λ (b : Bool). load b m) (and_assoc m.result (bit n.value m.memory.active) (all_active (map (λ n. n.value) ns) m.memory))
@@ -62,11 +55,8 @@ test_run n fs ts c m =
     ∙ ap (run last) (and_bracket (holds c (situation_in m.memory)) (words c) tested (condition_run c (machine.step AndOpen tested))))
 
 test_line : (l : Tree) (m : Machine) → (run (guard_words l) m).memory ≡ on_line marking l m.memory
-test_line empty m = refl
-test_line (step n b) m = refl
 test_line (trans n fs ts c us) m = test_run n fs ts c m
-test_line (hold n q) m = refl
-test_line (enter n a q) m = refl
+test_line _ m = refl
 
 -- T after the tests
 abbrev pub marks : List Transition → Situation → ℕ → ℕ

@@ -80,11 +80,8 @@ through g [] x = x
 through g (t ∷ ts) x = through g ts (g t x)
 
 through_line : (g : Transition → Memory → Memory) (l : Tree) (ls : List Tree) (x : Memory) → through g (transitions_in ls) (on_line g l x) ≡ through g (transitions_in (l ∷ ls)) x
-through_line g empty ls x = refl
-through_line g (step n b) ls x = refl
 through_line g (trans n fs ts c us) ls x = refl
-through_line g (hold n q) ls x = refl
-through_line g (enter n a q) ls x = refl
+through_line g _ ls x = refl
 
 -- words of every line do what the words of each line do
 pub lines_run : (f : Tree → List Instruction) (g : Transition → Memory → Memory) → ((l : Tree) (m : Machine) → (run (f l) m).memory ≡ on_line g l m.memory) → (ls : List Tree) (m : Machine) → (run (each f ls) m).memory ≡ through g (transitions_in ls) m.memory
@@ -99,9 +96,6 @@ lines_run f g h (l ∷ ls) m =
 -- the stored outputs change as the entries say, and nothing else does
 pub enter_run : (ls : List Tree) (m : Machine) → (run (enter_part ls) m).memory ≡ with_state m.memory.active (entered (newly_active m.memory.before m.memory.active) (entries_in ls) m.memory.stored) m.memory
 enter_run [] m = refl
-enter_run (empty ∷ ls) m = enter_run ls m
-enter_run (step n b ∷ ls) m = enter_run ls m
-enter_run (trans n fs ts c us ∷ ls) m = enter_run ls m
-enter_run (hold n q ∷ ls) m = enter_run ls m
 enter_run (enter n action.Set q ∷ ls) m = enter_run ls (run (enter_words (enter n action.Set q)) m)
 enter_run (enter n action.Reset q ∷ ls) m = enter_run ls (run (enter_words (enter n action.Reset q)) m)
+enter_run (_ ∷ ls) m = enter_run ls m

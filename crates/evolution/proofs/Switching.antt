@@ -1,16 +1,15 @@
 -- What the switches of the cleared transitions do to the active steps. Assumes nothing.
 use Rattle.std.proofs.Common.{◌≡◌, ℕ, ◌<◌, ◌^◌, Bool, true, false, cond, not, ◌&&◌, ◌||◌, List, [], ◌∷◌, map, eqb, refl, sym, ap, ◌∙◌, arith}
 use Rattle.std.specs.List.{list_any}
+use Rattle.std.proofs.Math.Bool.{and-false, and-or_distrib_left}
 use Rattle.frames.specs.Bits.{bit}
 use Rattle.frames.proofs.BitLaws.{bit_on, bit_off, on_fits, off_fits}
 use Rattle.words.specs.declared.instruction.Target.{Target}
 use Rattle.words.specs.declared.instruction.Target.TheVariants as target
-use Rattle.words.specs.declared.instruction.Operand.TheVariants.{Cleared}
-use Rattle.words.specs.declared.instruction.Instruction.TheVariants.{Load}
 use Rattle.lines.specs.declared.shape.Number.{Number}
 use Rattle.lines.specs.declared.shape.Action.{Action}
 use Rattle.lines.specs.declared.shape.Action.TheVariants.{Set, Reset}
-use Rattle.lines.specs.Grammar.{Tree, items, empty, step, trans, hold, enter}
+use Rattle.lines.specs.Grammar.{Tree, items, trans}
 use Rattle.translation.specs.Translation.{each, switch, switches, reset_words, set_words}
 use Rattle.machine.specs.declared.memory.Memory.{Memory}
 use Rattle.machine.specs.Machine.{Machine, load, write, with_state, altered, run}
@@ -21,11 +20,11 @@ use Rattle.evolution.proofs.Running.{on_line, through, lines_run}
 
 -- ---- one frame
 -- the frame after an action on bit n, where the result is on
-abbrev acted_if : Action → Bool → ℕ → ℕ → ℕ
+abbrev pub acted_if : Action → Bool → ℕ → ℕ → ℕ
 acted_if a r n x = cond r (acted a n x) x
 
 -- a bit that was b, after an action on it if p
-abbrev changed : Action → Bool → Bool → Bool
+abbrev pub changed : Action → Bool → Bool → Bool
 changed Set p b = b || p
 changed Reset p b = b && not p
 
@@ -43,7 +42,7 @@ changed_twice : (a : Action) (p q b : Bool) → changed a q (changed a p b) ≡ 
 changed_twice Set p q b = grind arith
 changed_twice Reset p q b = grind arith
 
-pub bit_acted_if : (a : Action) (r : Bool) (m n x : ℕ) → m < 64 → bit m (acted_if a r n x) ≡ changed a (r && eqb m n) (bit m x)
+bit_acted_if : (a : Action) (r : Bool) (m n x : ℕ) → m < 64 → bit m (acted_if a r n x) ≡ changed a (r && eqb m n) (bit m x)
 bit_acted_if a true m n x h = bit_acted a m n x h
 bit_acted_if a false m n x h = sym (changed_none a (bit m x))
 
@@ -54,25 +53,17 @@ acted_fits a false n x h = h
 
 -- ---- a list of steps
 -- after the action on all of these bits, where the result is on
-abbrev all_acted : Action → Bool → List ℕ → ℕ → ℕ
+abbrev pub all_acted : Action → Bool → List ℕ → ℕ → ℕ
 all_acted a r [] x = x
 all_acted a r (n ∷ ns) x = all_acted a r ns (acted_if a r n x)
 
-and_or : (r p q : Bool) → ((r && p) || (r && q)) ≡ (r && (p || q))
-and_or true p q = refl
-and_or false p q = refl
-
-and_false : (r : Bool) → (r && false) ≡ false
-and_false true = refl
-and_false false = refl
-
 bit_all_acted : (a : Action) (r : Bool) (m : ℕ) (ns : List ℕ) (x : ℕ) → m < 64 → bit m (all_acted a r ns x) ≡ changed a (r && member m ns) (bit m x)
-bit_all_acted a r m [] x h = sym (changed_none a (bit m x)) ∙ ap (λ p. changed a p (bit m x)) (sym (and_false r))
+bit_all_acted a r m [] x h = sym (changed_none a (bit m x)) ∙ ap (λ p. changed a p (bit m x)) (sym (and-false r))
 bit_all_acted a r m (n ∷ ns) x h =
     bit_all_acted a r m ns (acted_if a r n x) h
     ∙ ap (changed a (r && member m ns)) (bit_acted_if a r m n x h)
     ∙ changed_twice a (r && eqb m n) (r && member m ns) (bit m x)
-    ∙ ap (λ p. changed a p (bit m x)) (and_or r (eqb m n) (member m ns))
+    ∙ ap (λ p. changed a p (bit m x)) (sym (and-or_distrib_left r (eqb m n) (member m ns)))
 
 all_acted_fits : (a : Action) (r : Bool) (ns : List ℕ) (x : ℕ) → x < 2 ^ 64 → all_acted a r ns x < 2 ^ 64
 all_acted_fits a r [] x h = h
@@ -135,18 +126,12 @@ abbrev pub succeeding : Transition → List ℕ
 succeeding t = t.succeeding
 
 reset_line : (l : Tree) (m : Machine) → (run (reset_words l) m).memory ≡ on_line (acting Reset preceding) l m.memory
-reset_line empty m = refl
-reset_line (step n b) m = refl
 reset_line (trans n fs ts c us) m = switches_run Reset n.value (items fs) m
-reset_line (hold n q) m = refl
-reset_line (enter n a q) m = refl
+reset_line _ m = refl
 
 set_line : (l : Tree) (m : Machine) → (run (set_words l) m).memory ≡ on_line (acting Set succeeding) l m.memory
-set_line empty m = refl
-set_line (step n b) m = refl
 set_line (trans n fs ts c us) m = switches_run Set n.value (items ts) m
-set_line (hold n q) m = refl
-set_line (enter n a q) m = refl
+set_line _ m = refl
 
 pub resets_run : (ls : List Tree) (m : Machine) → (run (each reset_words ls) m).memory ≡ with_active (switched Reset preceding m.memory.cleared (transitions_in ls)) m.memory
 resets_run ls m = lines_run reset_words (acting Reset preceding) reset_line ls m ∙ through_acting Reset preceding (transitions_in ls) m.memory
