@@ -8,11 +8,11 @@ use crate::memory::{Bracket, Memory};
 use words::instruction::Instruction;
 
 // The result, the brackets, of which the first `depth` are open, and the memory.
-#[derive(Clone, Copy)]
+#[derive(Drop)]
 pub(crate) struct Machine {
-    pub(crate) result: bool,
-    pub(crate) brackets: [Bracket; 17],
-    pub(crate) depth: usize,
+    result: bool,
+    brackets: [Bracket; 17],
+    depth: usize,
     pub(crate) memory: Memory,
     ghost within: { depth ≤ 17 },
 }
