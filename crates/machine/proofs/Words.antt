@@ -1,6 +1,6 @@
 -- What the words of a sound part require of the machine, and what running them does. Assumes nothing.
-use Rattle.std.proofs.Common.{◌≡◌, ℕ, ◌+◌, ◌<◌, ◌≤◌, true, not, List, ◌∷◌, map, length, get_or, drop, sym, ap, ◌∙◌, add-one, drop-cons}
-use Rattle.std.proofs.lemmas.Bool.{and_parts}
+use Rattle.std.proofs.Common.{◌≡◌, ℕ, ◌+◌, ◌<◌, ◌≤◌, true, false, not, List, ◌∷◌, map, length, get_or, drop, sym, ap, ◌∙◌, add-one, drop-cons}
+use Rattle.std.proofs.lemmas.Bool.{and_parts, not-true}
 use Rattle.std.proofs.lemmas.Option.{cond_some}
 use Rattle.std.proofs.lemmas.List.{drop_all}
 use Rattle.words.specs.declared.instruction.Part.{Part}
@@ -15,7 +15,7 @@ is_word p w h = let i = instruction_of w in (cond_some (admitted p i) (word_of i
 
 -- the word at i, where the words are sound from i on
 pub record Next (p : Part) (depth w : ℕ) (rest : List ℕ) : Type 0 where
-  pub brackets : not (spoils depth (word_of (instruction_of w))) ≡ true
+  pub brackets : spoils depth (word_of (instruction_of w)) ≡ false
   pub sound : sound p (after depth (word_of (instruction_of w))) rest ≡ true
 
 dropped : (ws : List ℕ) (i : ℕ) → i < length ws → drop i ws ≡ get_or ws i 0 ∷ drop (i + 1) ws
@@ -28,7 +28,7 @@ next p depth i ws h e =
     let rest = and_parts (not (spoils depth w)) (sound p (after depth w) (drop (i + 1) ws)) both.1 in
     let is = is_word p w both.0 in
     record {
-      brackets = ap (λ v. not (spoils depth v)) is ∙ rest.0;
+      brackets = ap (spoils depth) is ∙ not-true (spoils depth w) rest.0;
       sound = ap (λ v. sound p (after depth v) (drop (i + 1) ws)) is ∙ rest.1;
     }
 

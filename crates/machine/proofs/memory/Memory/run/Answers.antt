@@ -1,4 +1,4 @@
-use Rattle.std.proofs.Common.{◌+◌, not, map, drop, sym, ap, ◌∙◌, arith}
+use Rattle.std.proofs.Common.{◌+◌, map, drop, sym, ap, ◌∙◌, arith}
 use Rattle.words.specs.Words.{instruction_of, word_of}
 use Rattle.words.specs.Brackets.{sound, spoils, after as depth_after}
 use Rattle.machine.specs.Machine.{begin, run, step, after}
@@ -10,7 +10,7 @@ pub step-requires-clause-brackets : goal.step-requires-clause-brackets
 step-requires-clause-brackets c =
     let m = c.loop-word.machine in
     let n = next c.args.part m.depth c.loop-word.word-index c.words-word-items.result.now (omega arith) c.loop-word.invariant.sound in
-    ap (λ i. not (spoils m.depth (word_of i))) c.instruction.ensures ∙ n.brackets
+    ap (λ i. spoils m.depth (word_of i)) c.instruction.ensures ∙ n.brackets
 
 pub loop-word-preserved : goal.loop-word-preserved
 loop-word-preserved c =
