@@ -7,6 +7,7 @@ use Rattle.words.specs.declared.instruction.Part.{Part}
 use Rattle.words.specs.Words.{lawful, admitted, instruction_of, word_of}
 use Rattle.words.specs.Brackets.{sound, spoils, after}
 use Rattle.words.proofs.Inverse.{written_back}
+use Rattle.machine.specs.declared.memory.Memory.{Memory}
 use Rattle.machine.specs.Machine.{Machine, run, step}
 
 -- a lawful word is the word of its instruction
@@ -32,9 +33,9 @@ next p depth i ws h e =
       sound = ap (λ v. sound p (after depth v) (drop (i + 1) ws)) is ∙ rest.1;
     }
 
-pub run-more : (i : ℕ) (ws : List ℕ) (m : Machine) → i < length ws → run (map instruction_of (drop i ws)) m ≡ run (map instruction_of (drop (i + 1) ws)) (step (instruction_of (get_or ws i 0)) m)
-run-more i ws m h = ap (λ us. run (map instruction_of us) m) (dropped ws i h)
+pub run-more : (i : ℕ) (ws : List ℕ) (m : Machine) → i < length ws → (run (map instruction_of (drop i ws)) m).memory ≡ (run (map instruction_of (drop (i + 1) ws)) (step (instruction_of (get_or ws i 0)) m)).memory
+run-more i ws m h = ap (λ us. (run (map instruction_of us) m).memory) (dropped ws i h)
 
--- the words at their end
-pub run-all : (i : ℕ) (ws : List ℕ) (m : Machine) {n : Machine} → length ws ≤ i → run (map instruction_of (drop i ws)) m ≡ n → m.memory ≡ n.memory
-run-all i ws m h e = ap (λ (k : Machine). k.memory) (ap (λ us. run (map instruction_of us) m) (sym (drop_all i ws h)) ∙ e)
+-- at the end of the words
+pub run-all : (i : ℕ) (ws : List ℕ) (m : Machine) {n : Memory} → length ws ≤ i → (run (map instruction_of (drop i ws)) m).memory ≡ n → m.memory ≡ n
+run-all i ws m h e = ap (λ us. (run (map instruction_of us) m).memory) (sym (drop_all i ws h)) ∙ e
