@@ -3,6 +3,7 @@ ghost use Rattle.std.specs.Prelude.{◌≡◌};
 ghost use Rattle.evolution.specs.Agreement.{CompiledFrom, is_none};
 ghost use Rattle.evolution.specs.Chart.{Chart};
 ghost use Rattle.evolution.specs.Rules as rules;
+ghost use Rattle.evolution.specs.Rules.{evolved, at_rest};
 ghost use Rattle.evolution.specs.Words.{showing, state_in, ran, reached, kept, start, output_frame};
 
 use crate::state::State;
@@ -76,8 +77,8 @@ impl State {
     #[tactic(auto, using(crate::proofs::Agreeing::evolved_as, crate::proofs::Agreeing::none_as))]
     pub fn evolve(self, program: &Program, inputs: u64, edges: Edges) -> Option<State>
         ensures words { result ≡ reached (ran program.now inputs edges self) }
-        ensures chart { (c : Chart) → CompiledFrom c program.now → kept self result ≡ rules.evolved c inputs edges self }
-        ensures rest { (c : Chart) → CompiledFrom c program.now → is_none result ≡ rules.at_rest c inputs edges self }
+        ensures chart { (c : Chart) → CompiledFrom c program.now → kept self result ≡ evolved c inputs edges self }
+        ensures rest { (c : Chart) → CompiledFrom c program.now → is_none result ≡ at_rest c inputs edges self }
     {
         State::reached(self.ran(program, inputs, edges))
     }
