@@ -18,41 +18,57 @@ use Rattle.evolution.proofs.Lawful.{chart_instructions, numbered}
 use Rattle.evolution.proofs.Evolving.{situation, evolved_memory, parts_evolve, evolved_stays, empty_at_rest}
 
 -- the memory after an evolution
-pub ran_as : (c : Chart) (p : Program) (inputs : ℕ) (edges : Edges) (s : State) → CompiledFrom c p → s.active < 2 ^ 64 → ran p inputs edges s ≡ evolved_memory c inputs edges s
+pub ran_as : (c : Chart) (p : Program) (inputs : ℕ) (edges : Edges) (s : State) → CompiledFrom c p →
+    s.active < 2 ^ 64 → ran p inputs edges s ≡ evolved_memory c inputs edges s
 unfolding ran after
 ran_as c p inputs edges s k h =
     let i = chart_instructions c p k in
-    ap₂ (λ clear enter. (run enter (begin (run clear (begin (prepared (showing inputs edges s)))).memory)).memory) i.clear i.enter
+    let x : Memory = prepared (showing inputs edges s) in
+    ap₂ (λ clear enter. (run enter (begin (run clear (begin x)).memory)).memory) i.clear i.enter
     ∙ parts_evolve k.lines inputs edges s (subst (λ (d : Chart). Numbered d.transitions) k.chart (numbered c p k)) h
     ∙ ap (λ (d : Chart). evolved_memory d inputs edges s) (sym k.chart)
 
 -- T is empty where the chart is at rest
-pub cleared_as : (c : Chart) (p : Program) (inputs : ℕ) (edges : Edges) (s : State) → CompiledFrom c p → s.active < 2 ^ 64 → ((ran p inputs edges s).cleared == 0) ≡ at_rest c inputs edges s
-cleared_as c p inputs edges s k h = ap (λ (m : Memory). m.cleared == 0) (ran_as c p inputs edges s k h) ∙ empty_at_rest c inputs edges s (numbered c p k)
+pub cleared_as : (c : Chart) (p : Program) (inputs : ℕ) (edges : Edges) (s : State) → CompiledFrom c p →
+    s.active < 2 ^ 64 → ((ran p inputs edges s).cleared == 0) ≡ at_rest c inputs edges s
+cleared_as c p inputs edges s k h =
+    ap (λ (m : Memory). m.cleared == 0) (ran_as c p inputs edges s k h) ∙ empty_at_rest c inputs edges s (numbered c p k)
 
 -- the state that is reached, if the chart is not at rest
-pub reached_as : (c : Chart) (p : Program) (inputs : ℕ) (edges : Edges) (s : State) → CompiledFrom c p → s.active < 2 ^ 64 → reached (ran p inputs edges s) ≡ (if at_rest c inputs edges s then None else Some (evolved c inputs edges s))
+pub reached_as : (c : Chart) (p : Program) (inputs : ℕ) (edges : Edges) (s : State) → CompiledFrom c p →
+    s.active < 2 ^ 64 →
+    reached (ran p inputs edges s) ≡ (if at_rest c inputs edges s then None else Some (evolved c inputs edges s))
 reached_as c p inputs edges s k h =
-    ap reached (ran_as c p inputs edges s k h) ∙ ap (λ (b : Bool). if b then None else Some (evolved c inputs edges s)) (empty_at_rest c inputs edges s (numbered c p k))
+    ap reached (ran_as c p inputs edges s k h)
+    ∙ ap (λ (b : Bool). if b then None else Some (evolved c inputs edges s)) (empty_at_rest c inputs edges s (numbered c p k))
 
 none_of : (b : Bool) (t : State) → is_none (if b then None else Some t) ≡ b
 none_of true t = refl
 none_of false t = refl
 
-pub none_as : (c : Chart) (p : Program) (inputs : ℕ) (edges : Edges) (s : State) → CompiledFrom c p → s.active < 2 ^ 64 → is_none (reached (ran p inputs edges s)) ≡ at_rest c inputs edges s
-none_as c p inputs edges s k h = ap is_none (reached_as c p inputs edges s k h) ∙ none_of (at_rest c inputs edges s) (evolved c inputs edges s)
+-- none is reached exactly if the chart is at rest
+pub none_as : (c : Chart) (p : Program) (inputs : ℕ) (edges : Edges) (s : State) → CompiledFrom c p →
+    s.active < 2 ^ 64 → is_none (reached (ran p inputs edges s)) ≡ at_rest c inputs edges s
+none_as c p inputs edges s k h =
+    ap is_none (reached_as c p inputs edges s k h) ∙ none_of (at_rest c inputs edges s) (evolved c inputs edges s)
 
 kept_of : (b : Bool) (s t : State) → (b ≡ true → t ≡ s) → kept s (if b then None else Some t) ≡ t
 kept_of true s t h = sym (h refl)
 kept_of false s t h = refl
 
-pub evolved_as : (c : Chart) (p : Program) (inputs : ℕ) (edges : Edges) (s : State) → CompiledFrom c p → s.active < 2 ^ 64 → words.evolved p inputs edges s ≡ evolved c inputs edges s
+-- the state after an evolution is the chart's
+pub evolved_as : (c : Chart) (p : Program) (inputs : ℕ) (edges : Edges) (s : State) → CompiledFrom c p →
+    s.active < 2 ^ 64 → words.evolved p inputs edges s ≡ evolved c inputs edges s
 evolved_as c p inputs edges s k h =
-    ap (kept s) (reached_as c p inputs edges s k h) ∙ kept_of (at_rest c inputs edges s) s (evolved c inputs edges s) (evolved_stays c inputs edges s h)
+    ap (kept s) (reached_as c p inputs edges s k h)
+    ∙ kept_of (at_rest c inputs edges s) s (evolved c inputs edges s) (evolved_stays c inputs edges s h)
 
-pub stable_as : (c : Chart) (p : Program) (inputs : ℕ) (s : State) → CompiledFrom c p → s.active < 2 ^ 64 → words.stable p inputs s ≡ rules.stable c inputs s
+-- what is stable by the words is stable by the rules
+pub stable_as : (c : Chart) (p : Program) (inputs : ℕ) (s : State) → CompiledFrom c p → s.active < 2 ^ 64 →
+    words.stable p inputs s ≡ rules.stable c inputs s
 stable_as c p inputs s k h = cleared_as c p inputs no_edges s k h
 
+-- the steps are a frame
 pub evolved_fits : (c : Chart) (inputs : ℕ) (edges : Edges) (s : State) → (evolved c inputs edges s).active < 2 ^ 64
 unfolding evolved
 evolved_fits c inputs edges s = pack_fits 64 (active_after c.transitions (situation inputs edges s))

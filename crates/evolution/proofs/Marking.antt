@@ -25,7 +25,8 @@ use Rattle.evolution.proofs.Running.{situation_in, run_append, and_bracket, cond
 abbrev all_active : List ℕ → Memory → Bool
 all_active ns x = list_all (λ n. bit n x.active) ns
 
-others_run : (ns : List Number) (m : Machine) → run (map (λ k. step_test false k) ns) m ≡ load (m.result && all_active (map (λ n. n.value) ns) m.memory) m
+others_run : (ns : List Number) (m : Machine) →
+    run (map (λ k. step_test false k) ns) m ≡ load (m.result && all_active (map (λ n. n.value) ns) m.memory) m
 others_run [] m = ap (λ (b : Bool). load b m) (sym (and-true m.result))
 others_run (n ∷ ns) m =
     others_run ns (machine.step (step_test false n) m)
@@ -36,7 +37,8 @@ items_some : (ns : Numbers) → none_yet (items ns) ≡ false
 items_some (one n) = refl
 items_some (more ns n) = empty_yet (items ns) n
 
-steps_run : (ns : List Number) (m : Machine) → none_yet ns ≡ false → run (step_tests ns) m ≡ load (all_active (map (λ n. n.value) ns) m.memory) m
+steps_run : (ns : List Number) (m : Machine) → none_yet ns ≡ false →
+    run (step_tests ns) m ≡ load (all_active (map (λ n. n.value) ns) m.memory) m
 steps_run [] m some = absurd (true≢false some)
 steps_run (n ∷ ns) m some = others_run ns (load (bit n.value m.memory.active) m)
 
@@ -44,7 +46,8 @@ steps_run (n ∷ ns) m some = others_run ns (load (bit n.value m.memory.active) 
 abbrev marking : Transition → Memory → Memory
 marking t x = with_cleared (stored (clearable t (situation_in x)) t.number x.cleared) x
 
-test_run : (n : Number) (fs ts : Numbers) (c : Cond) (m : Machine) → (run (transition_test n fs c) m).memory ≡ marking (transition n fs ts c) m.memory
+test_run : (n : Number) (fs ts : Numbers) (c : Cond) (m : Machine) →
+    (run (transition_test n fs c) m).memory ≡ marking (transition n fs ts c) m.memory
 test_run n fs ts c m =
     let tested : Machine = load (all_active (map (λ n. n.value) (items fs)) m.memory) m in
     let last : List Instruction = Store n.value ∷ [] in
@@ -63,11 +66,13 @@ abbrev pub marks : List Transition → Situation → ℕ → ℕ
 marks [] s w = w
 marks (t ∷ ts) s w = marks ts s (stored (clearable t s) t.number w)
 
-through_marking : (ts : List Transition) (x : Memory) → through marking ts x ≡ with_cleared (marks ts (situation_in x) x.cleared) x
+through_marking : (ts : List Transition) (x : Memory) →
+    through marking ts x ≡ with_cleared (marks ts (situation_in x) x.cleared) x
 through_marking [] x = refl
 through_marking (t ∷ ts) x = through_marking ts (marking t x)
 
-pub tests_run : (ls : List Tree) (m : Machine) → (run (each guard_words ls) m).memory ≡ with_cleared (marks (transitions_in ls) (situation_in m.memory) m.memory.cleared) m.memory
+pub tests_run : (ls : List Tree) (m : Machine) →
+    (run (each guard_words ls) m).memory ≡ with_cleared (marks (transitions_in ls) (situation_in m.memory) m.memory.cleared) m.memory
 tests_run ls m = lines_run guard_words marking test_line ls m ∙ through_marking (transitions_in ls) m.memory
 
 -- ---- the bits of T
@@ -86,8 +91,11 @@ marks_fit (t ∷ ts) s w h = marks_fit ts s _ (stored_fits (clearable t s) t.num
 abbrev has_number : ℕ → List Transition → Bool
 has_number n ts = list_any (λ t. eqb n t.number) ts
 
--- a transition with number n is clearable
-abbrev clearable_at : List Transition → Situation → ℕ → Bool
+-- a transition is clearable; one with number n is
+abbrev pub any_clearable : List Transition → Situation → Bool
+any_clearable ts s = list_any (λ t. clearable t s) ts
+
+abbrev pub clearable_at : List Transition → Situation → ℕ → Bool
 clearable_at ts s n = list_any (λ t. n == t.number && clearable t s) ts
 
 not_numbered : (n : ℕ) (ts : List Transition) (s : Situation) → has_number n ts ≡ false → clearable_at ts s n ≡ false
@@ -98,12 +106,14 @@ not_numbered n (t ∷ ts) s h =
     grind (arith, p.0, i)
 
 -- k: the first transition has the number; y: one of the others has; c, d: the first is clearable, or one of the others that has
-mark_bools : (k y c w d : Bool) → (k ≡ true → y ≡ false) → (y ≡ false → d ≡ false) → cond y d (cond k c w) ≡ cond (k || y) ((k && c) || d) w
+mark_bools : (k y c w d : Bool) → (k ≡ true → y ≡ false) → (y ≡ false → d ≡ false) →
+    cond y d (cond k c w) ≡ cond (k || y) ((k && c) || d) w
 mark_bools true true c w d h g = absurd (true≢false (h refl))
 mark_bools true false c w d h g = let z = g refl in grind (arith, z)
 mark_bools false y c w d h g = refl
 
-bit_marks : (ts : List Transition) (s : Situation) (n w : ℕ) → n < 64 → apart ts ≡ true → bit n (marks ts s w) ≡ cond (has_number n ts) (clearable_at ts s n) (bit n w)
+bit_marks : (ts : List Transition) (s : Situation) (n w : ℕ) → n < 64 → apart ts ≡ true →
+    bit n (marks ts s w) ≡ cond (has_number n ts) (clearable_at ts s n) (bit n w)
 bit_marks [] s n w hn ha = refl
 bit_marks (t ∷ ts) s n w hn ha =
     let a = and_parts (not (has_number t.number ts)) (apart ts) ha in
@@ -115,7 +125,8 @@ bit_marks (t ∷ ts) s n w hn ha =
     (not_numbered n ts s)
 
 -- each transition's own bit says whether it was clearable
-own_bit : (t : Transition) (ts : List Transition) (s : Situation) (w : ℕ) → Numbered (t ∷ ts) → bit t.number (marks (t ∷ ts) s w) ≡ clearable t s
+own_bit : (t : Transition) (ts : List Transition) (s : Situation) (w : ℕ) → Numbered (t ∷ ts) →
+    bit t.number (marks (t ∷ ts) s w) ≡ clearable t s
 own_bit t ts s w k =
     let a = and_parts (not (has_number t.number ts)) (apart ts) k.apart in
     let l = ltb-true t.number 64 (and_parts (ltb t.number 64) (list_all (λ t. ltb t.number 64) ts) k.small).0 in
@@ -131,14 +142,15 @@ numbered_rest t ts k = record {
   apart = (and_parts (not (has_number t.number ts)) (apart ts) k.apart).1;
 }
 
-pub marked : (r : Transition → Bool) (ts : List Transition) (s : Situation) (w : ℕ) → Numbered ts → list_any (λ t. bit t.number (marks ts s w) && r t) ts ≡ list_any (λ t. clearable t s && r t) ts
+pub marked : (r : Transition → Bool) (ts : List Transition) (s : Situation) (w : ℕ) → Numbered ts →
+    list_any (λ t. bit t.number (marks ts s w) && r t) ts ≡ list_any (λ t. clearable t s && r t) ts
 marked r [] s w k = refl
 marked r (t ∷ ts) s w k =
     ap₂ (λ a b. (a && r t) || b) (own_bit t ts s w k) (marked r ts s (stored (clearable t s) t.number w) (numbered_rest t ts k))
 
 -- the frame whose bit n is on exactly if a transition with number n is clearable
 abbrev pub cleared_frame : List Transition → Situation → ℕ
-cleared_frame ts s = pack 64 (λ n. list_any (λ t. n == t.number && clearable t s) ts)
+cleared_frame ts s = pack 64 (clearable_at ts s)
 
 unmarked : (y d : Bool) → (y ≡ false → d ≡ false) → cond y d false ≡ d
 unmarked true d h = refl

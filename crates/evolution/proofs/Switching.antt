@@ -42,7 +42,8 @@ changed_twice : (a : Action) (p q b : Bool) → changed a q (changed a p b) ≡ 
 changed_twice Set p q b = grind arith
 changed_twice Reset p q b = grind arith
 
-bit_acted_if : (a : Action) (r : Bool) (m n x : ℕ) → m < 64 → bit m (acted_if a r n x) ≡ changed a (r && eqb m n) (bit m x)
+bit_acted_if : (a : Action) (r : Bool) (m n x : ℕ) → m < 64 →
+    bit m (acted_if a r n x) ≡ changed a (r && eqb m n) (bit m x)
 bit_acted_if a true m n x h = bit_acted a m n x h
 bit_acted_if a false m n x h = sym (changed_none a (bit m x))
 
@@ -57,7 +58,8 @@ abbrev pub all_acted : Action → Bool → List ℕ → ℕ → ℕ
 all_acted a r [] x = x
 all_acted a r (n ∷ ns) x = all_acted a r ns (acted_if a r n x)
 
-bit_all_acted : (a : Action) (r : Bool) (m : ℕ) (ns : List ℕ) (x : ℕ) → m < 64 → bit m (all_acted a r ns x) ≡ changed a (r && member m ns) (bit m x)
+bit_all_acted : (a : Action) (r : Bool) (m : ℕ) (ns : List ℕ) (x : ℕ) → m < 64 →
+    bit m (all_acted a r ns x) ≡ changed a (r && member m ns) (bit m x)
 bit_all_acted a r m [] x h = sym (changed_none a (bit m x)) ∙ ap (λ p. changed a p (bit m x)) (sym (and-false r))
 bit_all_acted a r m (n ∷ ns) x h =
     bit_all_acted a r m ns (acted_if a r n x) h
@@ -78,7 +80,8 @@ switched a pick done (t ∷ ts) x = switched a pick done ts (all_acted a (bit t.
 abbrev picked : (Transition → List ℕ) → ℕ → ℕ → Transition → Bool
 picked pick done m t = bit t.number done && member m (pick t)
 
-pub bit_switched : (a : Action) (pick : Transition → List ℕ) (done m : ℕ) (ts : List Transition) (x : ℕ) → m < 64 → bit m (switched a pick done ts x) ≡ changed a (list_any (λ t. bit t.number done && member m (pick t)) ts) (bit m x)
+pub bit_switched : (a : Action) (pick : Transition → List ℕ) (done m : ℕ) (ts : List Transition) (x : ℕ) → m < 64 →
+    bit m (switched a pick done ts x) ≡ changed a (list_any (λ t. bit t.number done && member m (pick t)) ts) (bit m x)
 bit_switched a pick done m [] x h = sym (changed_none a (bit m x))
 bit_switched a pick done m (t ∷ ts) x h =
     let rest = list_any (picked pick done m) ts in
@@ -86,13 +89,15 @@ bit_switched a pick done m (t ∷ ts) x h =
     ∙ ap (changed a rest) (bit_all_acted a (bit t.number done) m (pick t) x h)
     ∙ changed_twice a (picked pick done m t) rest (bit m x)
 
-pub switched_fits : (a : Action) (pick : Transition → List ℕ) (done : ℕ) (ts : List Transition) (x : ℕ) → x < 2 ^ 64 → switched a pick done ts x < 2 ^ 64
+pub switched_fits : (a : Action) (pick : Transition → List ℕ) (done : ℕ) (ts : List Transition) (x : ℕ) → x < 2 ^ 64 →
+    switched a pick done ts x < 2 ^ 64
 switched_fits a pick done [] x h = h
 switched_fits a pick done (t ∷ ts) x h = switched_fits a pick done ts _ (all_acted_fits a (bit t.number done) (pick t) x h)
 
 -- ---- the words
 -- one switch
-switch_step : (a : Action) (t : Target) (m : Machine) → machine.step (switch a t) m ≡ write (altered (acted_if a m.result) t m.memory) m
+switch_step : (a : Action) (t : Target) (m : Machine) →
+    machine.step (switch a t) m ≡ write (altered (acted_if a m.result) t m.memory) m
 switch_step Set (target.Step n) m = refl
 switch_step Set (target.Output n) m = refl
 switch_step Reset (target.Step n) m = refl
@@ -102,7 +107,8 @@ switch_step Reset (target.Output n) m = refl
 abbrev pub with_active : (ℕ → ℕ) → Memory → Memory
 with_active f x = with_state (f x.active) x.stored x
 
-steps_run : (a : Action) (ns : List Number) (m : Machine) → run (map (λ s. switch a (target.Step s.value)) ns) m ≡ write (with_active (all_acted a m.result (map (λ n. n.value) ns)) m.memory) m
+steps_run : (a : Action) (ns : List Number) (m : Machine) →
+    run (map (λ s. switch a (target.Step s.value)) ns) m ≡ write (with_active (all_acted a m.result (map (λ n. n.value) ns)) m.memory) m
 steps_run a [] m = refl
 steps_run a (n ∷ ns) m =
     ap (run (map (λ s. switch a (target.Step s.value)) ns)) (switch_step a (target.Step n.value) m)
@@ -112,11 +118,13 @@ steps_run a (n ∷ ns) m =
 abbrev acting : Action → (Transition → List ℕ) → Transition → Memory → Memory
 acting a pick t x = with_active (all_acted a (bit t.number x.cleared) (pick t)) x
 
-through_acting : (a : Action) (pick : Transition → List ℕ) (ts : List Transition) (x : Memory) → through (acting a pick) ts x ≡ with_active (switched a pick x.cleared ts) x
+through_acting : (a : Action) (pick : Transition → List ℕ) (ts : List Transition) (x : Memory) →
+    through (acting a pick) ts x ≡ with_active (switched a pick x.cleared ts) x
 through_acting a pick [] x = refl
 through_acting a pick (t ∷ ts) x = through_acting a pick ts (acting a pick t x)
 
-switches_run : (a : Action) (t : ℕ) (ns : List Number) (m : Machine) → (run (switches a t ns) m).memory ≡ with_active (all_acted a (bit t m.memory.cleared) (map (λ n. n.value) ns)) m.memory
+switches_run : (a : Action) (t : ℕ) (ns : List Number) (m : Machine) →
+    (run (switches a t ns) m).memory ≡ with_active (all_acted a (bit t m.memory.cleared) (map (λ n. n.value) ns)) m.memory
 switches_run a t ns m = ap (λ (k : Machine). k.memory) (steps_run a ns (load (bit t m.memory.cleared) m))
 
 abbrev pub preceding : Transition → List ℕ
@@ -133,8 +141,12 @@ set_line : (l : Tree) (m : Machine) → (run (set_words l) m).memory ≡ on_line
 set_line (trans n fs ts c us) m = switches_run Set n.value (items ts) m
 set_line _ m = refl
 
-pub resets_run : (ls : List Tree) (m : Machine) → (run (each reset_words ls) m).memory ≡ with_active (switched Reset preceding m.memory.cleared (transitions_in ls)) m.memory
-resets_run ls m = lines_run reset_words (acting Reset preceding) reset_line ls m ∙ through_acting Reset preceding (transitions_in ls) m.memory
+pub resets_run : (ls : List Tree) (m : Machine) →
+    (run (each reset_words ls) m).memory ≡ with_active (switched Reset preceding m.memory.cleared (transitions_in ls)) m.memory
+resets_run ls m =
+    lines_run reset_words (acting Reset preceding) reset_line ls m ∙ through_acting Reset preceding (transitions_in ls) m.memory
 
-pub sets_run : (ls : List Tree) (m : Machine) → (run (each set_words ls) m).memory ≡ with_active (switched Set succeeding m.memory.cleared (transitions_in ls)) m.memory
-sets_run ls m = lines_run set_words (acting Set succeeding) set_line ls m ∙ through_acting Set succeeding (transitions_in ls) m.memory
+pub sets_run : (ls : List Tree) (m : Machine) →
+    (run (each set_words ls) m).memory ≡ with_active (switched Set succeeding m.memory.cleared (transitions_in ls)) m.memory
+sets_run ls m =
+    lines_run set_words (acting Set succeeding) set_line ls m ∙ through_acting Set succeeding (transitions_in ls) m.memory
