@@ -1,12 +1,12 @@
 -- The output frame, by the words of a program and by its chart. Assumes nothing.
-use Rattle.std.proofs.Common.{◌≡◌, ℕ, ◌^◌, ◌<◌, Bool, true, false, cond, ◌&&◌, ◌||◌, eqb, List, [], ◌∷◌, bit_or, sym, refl, ap, ◌∙◌, arith}
+use Rattle.std.proofs.Common.{◌≡◌, ℕ, ◌^◌, ◌<◌, Bool, cond, ◌&&◌, ◌||◌, eqb, List, [], ◌∷◌, bit_or, sym, refl, ap, ◌∙◌, arith}
 use lib.Bits.{or_lt}
 use Rattle.std.specs.List.{list_any}
 use Rattle.std.proofs.Math.Bool.{or_assoc, or-false}
 use Rattle.codefile.specs.declared.program.Program.{Program}
 use Rattle.frames.specs.Bits.{bit, on}
 use Rattle.frames.specs.Edges.{no_edges}
-use Rattle.frames.proofs.BitLaws.{bit_on, bit_nought, bit_or_lem, on_fits, packs}
+use Rattle.frames.proofs.BitLaws.{bit_nought, bit_or_lem, packs}
 use Rattle.lines.specs.Grammar.{Tree, hold}
 use Rattle.translation.specs.Translation.{hold_part}
 use Rattle.machine.specs.Machine.{Machine, begin, with_held, run, after}
@@ -15,7 +15,9 @@ use Rattle.evolution.specs.Chart.{Chart, Holding, holdings_in, chart_of_lines}
 use Rattle.evolution.specs.Rules as rules
 use Rattle.evolution.specs.Words.{showing, frame_in, output_frame}
 use Rattle.evolution.specs.Agreement.{CompiledFrom}
+use Rattle.lines.specs.declared.shape.Action.TheVariants.{Set}
 use Rattle.evolution.proofs.Lawful.{chart_instructions}
+use Rattle.evolution.proofs.Switching.{bit_acted_if, acted_fits}
 
 -- H after the hold lines, by the active steps
 abbrev held_by : List Holding → ℕ → ℕ → ℕ
@@ -32,24 +34,16 @@ holds_run (_ ∷ ls) m = holds_run ls m
 abbrev held_on : ℕ → ℕ → Holding → Bool
 held_on x q h = bit h.step x && eqb q h.output
 
-bit_one : (b : Bool) (n w q : ℕ) → n < 64 → bit n (cond b (on w q) w) ≡ (bit n w || (b && eqb n q))
-bit_one true n w q l = bit_on n w q l
-bit_one false n w q l = sym (or-false (bit n w))
-
 bit_held : (hs : List Holding) (x n w : ℕ) → n < 64 → bit n (held_by hs x w) ≡ (bit n w || list_any (held_on x n) hs)
 bit_held [] x n w l = sym (or-false (bit n w))
 bit_held (h ∷ hs) x n w l =
     bit_held hs x n (cond (bit h.step x) (on w h.output) w) l
-    ∙ ap (λ b. b || list_any (held_on x n) hs) (bit_one (bit h.step x) n w h.output l)
+    ∙ ap (λ b. b || list_any (held_on x n) hs) (bit_acted_if Set (bit h.step x) n h.output w l)
     ∙ or_assoc (bit n w) (held_on x n h) (list_any (held_on x n) hs)
-
-one_fits : (b : Bool) (w q : ℕ) → w < 2 ^ 64 → cond b (on w q) w < 2 ^ 64
-one_fits true w q h = on_fits w q h
-one_fits false w q h = h
 
 held_fits : (hs : List Holding) (x w : ℕ) → w < 2 ^ 64 → held_by hs x w < 2 ^ 64
 held_fits [] x w f = f
-held_fits (h ∷ hs) x w f = held_fits hs x _ (one_fits (bit h.step x) w h.output f)
+held_fits (h ∷ hs) x w f = held_fits hs x _ (acted_fits Set (bit h.step x) h.output w f)
 
 -- Q and H together
 frame_as : (ls : List Tree) (s : State) → s.stored < 2 ^ 64 →

@@ -42,12 +42,12 @@ changed_twice : (a : Action) (p q b : Bool) → changed a q (changed a p b) ≡ 
 changed_twice Set p q b = grind arith
 changed_twice Reset p q b = grind arith
 
-bit_acted_if : (a : Action) (r : Bool) (m n x : ℕ) → m < 64 →
+pub bit_acted_if : (a : Action) (r : Bool) (m n x : ℕ) → m < 64 →
     bit m (acted_if a r n x) ≡ changed a (r && eqb m n) (bit m x)
 bit_acted_if a true m n x h = bit_acted a m n x h
 bit_acted_if a false m n x h = sym (changed_none a (bit m x))
 
-acted_fits : (a : Action) (r : Bool) (n x : ℕ) → x < 2 ^ 64 → acted_if a r n x < 2 ^ 64
+pub acted_fits : (a : Action) (r : Bool) (n x : ℕ) → x < 2 ^ 64 → acted_if a r n x < 2 ^ 64
 acted_fits Set true n x h = on_fits x n h
 acted_fits Reset true n x h = off_fits x n h
 acted_fits a false n x h = h
