@@ -131,26 +131,44 @@ verdicts {stable = stable} {s = s} f Overlong a =
       rests = λ n e k l. cc;
     }
 
--- ---- the same verdict fits another sequence that agrees
+-- ---- the same verdict fits other states that agree
 -- the same states, and the same ones of them stable
 pub record Alike {S : Type 0} (stable stable′ : S → Bool) (s s′ : ℕ → S) : Type 0 where
   pub same : (n : ℕ) → s n ≡ s′ n
-  pub stable_as : (n : ℕ) → stable (s n) ≡ stable′ (s′ n)
+  pub rest : (n : ℕ) → stable (s n) ≡ stable′ (s′ n)
+
+turned : {S : Type 0} {stable stable′ : S → Bool} {s s′ : ℕ → S} → Alike stable stable′ s s′ → Alike stable′ stable s′ s
+turned a = record { same = λ n. sym (a.same n); rest = λ n. sym (a.rest n) }
 
 none_as : {S : Type 0} {stable stable′ : S → Bool} {s s′ : ℕ → S} → Alike stable stable′ s s′ → NoneStable stable s → NoneStable stable′ s′
-none_as a none n low few = sym (a.stable_as n) ∙ none n low few
+none_as a none n low few = sym (a.rest n) ∙ none n low few
 
-repeats_as : {S : Type 0} {s s′ : ℕ → S} → ((n : ℕ) → s n ≡ s′ n) → {j k : ℕ} → Repeats s j k → Repeats s′ j k
-repeats_as e {j} {k} r = record { some = r.some; earlier = r.earlier; few = r.few; equal = sym (e j) ∙ r.equal ∙ e k }
+repeats_as : {S : Type 0} {stable stable′ : S → Bool} {s s′ : ℕ → S} → Alike stable stable′ s s′ → {j k : ℕ} → Repeats s j k → Repeats s′ j k
+repeats_as a {j} {k} r = record { some = r.some; earlier = r.earlier; few = r.few; equal = sym (a.same j) ∙ r.equal ∙ a.same k }
 
-pub judged_as : {S : Type 0} {stable stable′ : S → Bool} {s s′ : ℕ → S} → Alike stable stable′ s s′ → (v : Verdict) → Judged stable s v → Judged stable′ s′ v
-judged_as a (Stable m) b =
-    record { some = b.some; few = b.few; is_stable = sym (a.stable_as m) ∙ b.is_stable; least = λ n low less. sym (a.stable_as n) ∙ b.least n low less }
-judged_as a (Circling j k) b =
-    record {
-      none = none_as a b.none;
-      repeats = repeats_as a.same b.repeats;
-      least = λ i h l r. b.least i h l (repeats_as (λ n. sym (a.same n)) r);
-    }
-judged_as a Overlong b =
-    record { none = none_as a b.none; apart = λ j k r. b.apart j k (repeats_as (λ n. sym (a.same n)) r) }
+stable_as : {S : Type 0} {stable stable′ : S → Bool} {s s′ : ℕ → S} {m : ℕ} → Alike stable stable′ s s′ → StableFirst stable s m → StableFirst stable′ s′ m
+stable_as {m = m} a b =
+    record { some = b.some; few = b.few; is_stable = sym (a.rest m) ∙ b.is_stable; least = λ n low less. sym (a.rest n) ∙ b.least n low less }
+
+circles_as : {S : Type 0} {stable stable′ : S → Bool} {s s′ : ℕ → S} {j k : ℕ} → Alike stable stable′ s s′ → Circles stable s j k → Circles stable′ s′ j k
+circles_as a b = record {
+  none = none_as a b.none;
+  repeats = repeats_as a b.repeats;
+  least = λ i h l r. b.least i h l (repeats_as (turned a) r);
+}
+
+neither_as : {S : Type 0} {stable stable′ : S → Bool} {s s′ : ℕ → S} → Alike stable stable′ s s′ → Neither stable s → Neither stable′ s′
+neither_as a b = record { none = none_as a b.none; apart = λ j k r. b.apart j k (repeats_as (turned a) r) }
+
+pub verdicts_as : {S : Type 0} {stable stable′ : S → Bool} {s s′ : ℕ → S} {v : Verdict} → Alike stable stable′ s s′ → Verdicts stable s v → Verdicts stable′ s′ v
+verdicts_as a h = record {
+  is_stable = λ m. (λ e. stable_as a ((h.is_stable m).0 e), λ b. (h.is_stable m).1 (stable_as (turned a) b));
+  is_circling = λ j k. (λ e. circles_as a ((h.is_circling j k).0 e), λ b. (h.is_circling j k).1 (circles_as (turned a) b));
+  is_overlong = (λ e. neither_as a (h.is_overlong.0 e), λ b. h.is_overlong.1 (neither_as (turned a) b));
+  circles = (
+    λ w. let r = h.circles.0 w in (none_as a r.0, (r.1.0, (r.1.1.0, repeats_as a r.1.1.1))),
+    λ w. h.circles.1 (none_as (turned a) w.0, (w.1.0, (w.1.1.0, repeats_as (turned a) w.1.1.1))),
+  );
+  never = λ j k e n low. sym (a.rest n) ∙ h.never j k e n low;
+  rests = λ m e n l. sym (a.same n) ∙ h.rests m e n l ∙ a.same m;
+}
