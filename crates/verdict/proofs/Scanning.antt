@@ -1,17 +1,23 @@
 -- From the verdict on a program's states to what a scan promises. Assumes nothing.
-use Rattle.std.proofs.Common.{◌≡◌, ℕ, zero, suc, ◌≤◌, true, eqb, ap, ◌∙◌, arith}
-use Rattle.std.proofs.lemmas.Bool.{cond-true}
+use Rattle.std.proofs.Common.{◌≡◌, ℕ, zero, suc, ◌+◌, ◌<◌, ◌≤◌, ◌^◌, true, false, eqb, List, length, take, set, Some, None, refl, sym, ap, ◌∙◌, ⊎_elim, add-one, arith}
+use Rattle.std.proofs.lemmas.Bool.{cond-true, cond-false, cases_Bool}
 use Rattle.codefile.specs.declared.program.Program.{Program}
 use Rattle.frames.specs.declared.edges.Edges.{Edges}
 use Rattle.frames.specs.Edges.{no_edges}
+use Rattle.search.specs.Earliest.{Earliest}
+use Rattle.machine.specs.declared.memory.Memory.{Memory}
 use Rattle.evolution.specs.declared.state.State.{State}
-use Rattle.evolution.specs.Words.{ran, kept}
+use Rattle.evolution.specs.Chart.{Chart}
+use Rattle.evolution.specs.Rules as chart
+use Rattle.evolution.specs.Words.{ran, reached, kept}
+use Rattle.evolution.specs.Words as words
 use Rattle.verdict.specs.declared.outcome.Outcome.{Outcome}
 use Rattle.verdict.specs.declared.outcome.Verdict.{Verdict}
 use Rattle.verdict.specs.declared.outcome.Verdict.TheVariants.{Stable, Circling, Overlong}
-use Rattle.verdict.specs.Rules.{by_words}
-use Rattle.verdict.specs.Scans.{Rules, states, settled, Scanned}
-use Rattle.verdict.proofs.Judging.{Follows, Alike, verdicts_as}
+use Rattle.verdict.specs.Rules.{by_words, by_chart}
+use Rattle.verdict.specs.Scans.{Rules, edges_from, states, settled, Scanned}
+use Rattle.verdict.proofs.Judging.{Follows, Alike, verdicts, verdicts_as}
+use Rattle.verdict.proofs.Looping.{Known, known_more, found_stable, found_circle, found_neither, found_at}
 
 -- ---- by any rules
 -- a stable state is followed by itself
@@ -45,3 +51,71 @@ scanned_as {r = r} a h = record { verdict = verdicts_as a h.verdict; state = h.s
 -- ---- by words
 pub words_rest : (p : Program) (inputs : ℕ) → Rests (by_words p inputs)
 words_rest p inputs = record { rests = λ x q. ap (kept x) (cond-true (eqb (ran p inputs no_edges x).cleared 0) _ _ q) }
+
+-- T is empty where the evolution gives no state
+rested : (m : Memory) → None ≡ reached m → eqb m.cleared 0 ≡ true
+rested m h = ⊎_elim (λ t. t) (λ f. let e = h ∙ cond-false (eqb m.cleared 0) _ _ f in cc) (cases_Bool (eqb m.cleared 0))
+
+moved : (m : Memory) (y : State) → Some y ≡ reached m → eqb m.cleared 0 ≡ false
+moved m y h = ⊎_elim (λ t. let e = h ∙ cond-true (eqb m.cleared 0) _ _ t in cc) (λ f. f) (cases_Bool (eqb m.cleared 0))
+
+-- ---- the loop by words: x is s(n + 1) of a scan, and xs holds the states before it
+abbrev pub At : Program → ℕ → Edges → State → ℕ → State → List State → Type 0
+At p inputs edges s n x xs = Known (by_words p inputs).stable (states (by_words p inputs) edges s) n x xs
+
+pub stops : (p : Program) (inputs : ℕ) (edges : Edges) (s : State) (n : ℕ) (x : State) (xs : List State) → At p inputs edges s n x xs → n < 64 → None ≡ reached (ran p inputs no_edges x) → Scanned (by_words p inputs) edges s (record { verdict = Stable (n + 1); state = x })
+stops p inputs edges s n x xs k l h = rw add-one (record { verdict = verdicts (follows rules edges s (words_rest p inputs)) (Stable (suc n)) (found_stable k.so_far l stable); state = k.current })
+  where
+    rules : Rules
+    rules = by_words p inputs
+
+    stable : rules.stable (states rules edges s (suc n)) ≡ true
+    stable = ap rules.stable (sym k.current) ∙ rested (ran p inputs no_edges x) h
+
+pub repeats : (p : Program) (inputs : ℕ) (edges : Edges) (s : State) (n : ℕ) (x y : State) (xs : List State) (j : ℕ) → At p inputs edges s n x xs → n < 64 → Some y ≡ reached (ran p inputs no_edges x) → Earliest (take n xs) x (Some j) → Scanned (by_words p inputs) edges s (record { verdict = Circling (j + 1) (n + 1); state = s })
+repeats p inputs edges s n x y xs j k l h e = rw (add-one j, add-one n) (record { verdict = verdicts f (Circling (suc j) (suc n)) (found_circle f k.so_far l unstable j at.0 at.1); state = refl })
+  where
+    rules : Rules
+    rules = by_words p inputs
+
+    f : Follows rules.stable (states rules edges s)
+    f = follows rules edges s (words_rest p inputs)
+
+    at : (j < n) × (states rules edges s (suc j) ≡ states rules edges s (suc n))
+    at = found_at k j e
+
+    unstable : rules.stable (states rules edges s (suc n)) ≡ false
+    unstable = ap rules.stable (sym k.current) ∙ moved (ran p inputs no_edges x) y h
+
+pub goes_on : (p : Program) (inputs : ℕ) (edges : Edges) (s : State) (n : ℕ) (x y : State) (xs : List State) → At p inputs edges s n x xs → n < length xs → Some y ≡ reached (ran p inputs no_edges x) → Earliest (take n xs) x None → At p inputs edges s (n + 1) y (set xs n x)
+goes_on p inputs edges s n x y xs k l h e = rw add-one (known_more y l k (moved (ran p inputs no_edges x) y h) e next)
+  where
+    next : y ≡ states (by_words p inputs) edges s (suc (suc n))
+    next = ap (kept x) h ∙ ap (words.evolved p inputs no_edges) k.current
+
+pub ends : (p : Program) (inputs : ℕ) (edges : Edges) (s : State) (n : ℕ) (x : State) (xs : List State) → At p inputs edges s n x xs → 64 ≤ n → Scanned (by_words p inputs) edges s (record { verdict = Overlong; state = s })
+ends p inputs edges s n x xs k l = record { verdict = verdicts (follows (by_words p inputs) edges s (words_rest p inputs)) Overlong (found_neither l k.so_far); state = refl }
+
+-- ---- by a chart
+-- the words and the rules of the chart agree on every state that fits
+pub record Agree (c : Chart) (p : Program) (inputs : ℕ) : Type 0 where
+  pub evolved : (e : Edges) (x : State) → x.active < 2 ^ 64 → words.evolved p inputs e x ≡ chart.evolved c inputs e x
+  pub at_rest : (e : Edges) (x : State) → x.active < 2 ^ 64 → eqb (ran p inputs e x).cleared 0 ≡ chart.at_rest c inputs e x
+  pub fits : (e : Edges) (x : State) → (chart.evolved c inputs e x).active < 2 ^ 64
+
+record SameAt (c : Chart) (p : Program) (inputs : ℕ) (edges : Edges) (s : State) (n : ℕ) : Type 0 where
+  same : states (by_words p inputs) edges s n ≡ states (by_chart c inputs) edges s n
+  fits : (states (by_chart c inputs) edges s n).active < 2 ^ 64
+
+same_at : {c : Chart} {p : Program} {inputs : ℕ} (edges : Edges) (s : State) → Agree c p inputs → s.active < 2 ^ 64 → (n : ℕ) → SameAt c p inputs edges s n
+same_at edges s a l zero = record { same = refl; fits = l }
+same_at {c} {p} {inputs} edges s a l (suc n) =
+    let i = same_at edges s a l n in
+    let e = edges_from edges n in
+    record { same = ap (words.evolved p inputs e) i.same ∙ a.evolved e _ i.fits; fits = a.fits e _ }
+
+pub by_chart_too : (c : Chart) (p : Program) (inputs : ℕ) (edges : Edges) (s : State) (r : Outcome) → Agree c p inputs → s.active < 2 ^ 64 → Scanned (by_words p inputs) edges s r → Scanned (by_chart c inputs) edges s r
+by_chart_too c p inputs edges s r a l = scanned_as (record {
+  same = λ n. (same_at edges s a l n).same;
+  rest = λ n. let i = same_at edges s a l n in ap (words.stable p inputs) i.same ∙ a.at_rest no_edges _ i.fits;
+})
