@@ -1,3 +1,4 @@
 pub mod Verdicts
 pub mod Scans
 pub mod Rules
+pub mod Shown

@@ -3,7 +3,7 @@ ghost use Rattle.std.specs.Prelude.{◌≡◌, ℕ, ◌<◌, Some};
 ghost use Rattle.words.specs.declared.instruction.Instruction.{Instruction as AnInstruction};
 ghost use Rattle.words.specs.Words.{packed, operand_area, operand_number, operator_in, area_in, number_in, word_of};
 ghost use Rattle.words.specs.Words.{admitted, encoded, operator_of, area_of, number_of, pairs, numbers, lawful};
-ghost use Rattle.words.specs.Words.{operand_at, target_at, instruction_at, decoded};
+ghost use Rattle.words.specs.Words.{operand_at, target_at, instruction_at, instruction_of, decoded};
 
 use crate::instruction::{Instruction, Operand, Part, Target};
 
@@ -201,10 +201,17 @@ pub fn is_lawful(part: Part, word: u32) -> bool
     word % 16384 == 0 && fields.may_pair(part) && fields.may_number()
 }
 
+/// The instruction of a lawful word, read without a test.
+pub fn instruction(word: u32) -> Instruction
+    ensures { result ≡ instruction_of word }
+{
+    Fields::of(word).instruction()
+}
+
 /// The one instruction of a word, or None where the word is not lawful in the part.
 pub fn decode(part: Part, word: u32) -> Option<Instruction>
     ensures instruction { result ≡ decoded part word }
     ensures written_back { (i : AnInstruction) → result ≡ Some i → encoded part i ≡ Some word }
 {
-    is_lawful(part, word).then(|| Fields::of(word).instruction())
+    is_lawful(part, word).then(|| instruction(word))
 }
