@@ -1,5 +1,5 @@
--- What the program and the chart of a text are known to be: the instructions of its lines, and transitions with numbers of
--- their own. Assumes nothing.
+-- What is known of the program and the chart of a text: the instructions of its lines, and that no two transitions have
+-- the same number. Assumes nothing.
 use Rattle.std.proofs.Common.{◌≡◌, ℕ, suc, ◌<◌, Bool, true, false, not, ◌&&◌, ◌||◌, eqb, ltb, List, [], ◌∷◌, map, length, get_or, Ok, Err, Result, sym, refl, ap, ◌∙◌, subst, inr, arith}
 use Rattle.std.specs.List.{list_any, list_all}
 use Rattle.std.proofs.lemmas.Bool.{and_from, or_from, not_from_false, false_from_ne_true, eqb-true, lt-ltb}
@@ -75,7 +75,8 @@ none_same : (m : Number) (ns : List Number) → ((i place : ℕ) → At ns m.val
 none_same m [] absent = refl
 none_same m (n ∷ ns) absent =
     or_from (same_number m n) (has same_number m ns)
-    (false_from_ne_true (same_number m n) (λ e. absent 0 n.place (omega arith, λ d. sym (eqb-true m.value n.value e), λ d. refl)))
+    (false_from_ne_true (same_number m n)
+    (λ e. absent 0 n.place (omega arith, λ d. sym (eqb-true m.value n.value e), λ d. refl)))
     (none_same m ns (λ i place a. absent (suc i) place (omega (arith, a.0), a.1, a.2)))
 
 abbrev once : List Number → Bool
@@ -108,14 +109,17 @@ all_once (n ∷ ns) absent =
     (all_once ns (λ place r. absent place (twice_later n ns place r)))
 
 -- ---- the transitions of lines
-same_any : (m : Number) (ls : List Tree) → list_any (λ u. eqb m.value u.number) (transitions_in ls) ≡ has same_number m (all transitions_of ls)
+same_any : (m : Number) (ls : List Tree) →
+    list_any (λ u. eqb m.value u.number) (transitions_in ls) ≡ has same_number m (all transitions_of ls)
 same_any m [] = refl
 same_any m (trans n fs ts c us ∷ ls) = ap (λ b. eqb m.value n.value || b) (same_any m ls)
 same_any m (_ ∷ ls) = same_any m ls
 
 apart_once : (ls : List Tree) → apart (transitions_in ls) ≡ once (all transitions_of ls)
 apart_once [] = refl
-apart_once (trans n fs ts c us ∷ ls) = ap (λ b. not b && apart (transitions_in ls)) (same_any n ls) ∙ ap (λ b. not (has same_number n (all transitions_of ls)) && b) (apart_once ls)
+apart_once (trans n fs ts c us ∷ ls) =
+    ap (λ b. not b && apart (transitions_in ls)) (same_any n ls)
+    ∙ ap (λ b. not (has same_number n (all transitions_of ls)) && b) (apart_once ls)
 apart_once (_ ∷ ls) = apart_once ls
 
 all_small : (ls : List Tree) → AllFit ls → list_all (λ t. ltb t.number 64) (transitions_in ls) ≡ true

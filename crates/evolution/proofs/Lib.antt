@@ -3,3 +3,7 @@ pub mod Lawful
 pub mod Running
 pub mod Holding
 pub mod Starting
+pub mod Switching
+pub mod Marking
+pub mod Evolving
+pub mod Agreeing

@@ -1,5 +1,5 @@
 -- The transitions of a chart have numbers of their own, each below 64. Assumes nothing.
-use Rattle.std.proofs.Common.{◌≡◌, ℕ, Bool, true, false, not, ◌&&◌, List, [], ◌∷◌, eqb, ltb}
+use Rattle.std.proofs.Common.{◌≡◌, Bool, true, not, ◌&&◌, List, [], ◌∷◌, eqb, ltb}
 use Rattle.std.specs.List.{list_any, list_all}
 use Rattle.evolution.specs.Chart.{Transition}
 

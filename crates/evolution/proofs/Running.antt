@@ -35,10 +35,14 @@ atom_value (Fall n) m = refl
 atom_value Always m = refl
 
 -- a bracket: the present result is put away, the words inside give theirs, and both are joined
-pub and_bracket : (b : Bool) (ws : List Instruction) (m : Machine) → run ws (machine.step AndOpen m) ≡ load b (machine.step AndOpen m) → run (enclosed AndOpen ws) m ≡ load (m.result && b) m
+pub and_bracket : (b : Bool) (ws : List Instruction) (m : Machine) →
+    run ws (machine.step AndOpen m) ≡ load b (machine.step AndOpen m) →
+    run (enclosed AndOpen ws) m ≡ load (m.result && b) m
 and_bracket b ws m e = run_append ws (Close ∷ []) (machine.step AndOpen m) ∙ ap (machine.step Close) e
 
-pub or_bracket : (b : Bool) (ws : List Instruction) (m : Machine) → run ws (machine.step OrOpen m) ≡ load b (machine.step OrOpen m) → run (enclosed OrOpen ws) m ≡ load (m.result || b) m
+pub or_bracket : (b : Bool) (ws : List Instruction) (m : Machine) →
+    run ws (machine.step OrOpen m) ≡ load b (machine.step OrOpen m) →
+    run (enclosed OrOpen ws) m ≡ load (m.result || b) m
 or_bracket b ws m e = run_append ws (Close ∷ []) (machine.step OrOpen m) ∙ ap (machine.step Close) e
 
 mutual
@@ -79,15 +83,15 @@ abbrev pub through : (Transition → Memory → Memory) → List Transition → 
 through g [] x = x
 through g (t ∷ ts) x = through g ts (g t x)
 
-through_line : (g : Transition → Memory → Memory) (l : Tree) (ls : List Tree) (x : Memory) → through g (transitions_in ls) (on_line g l x) ≡ through g (transitions_in (l ∷ ls)) x
-through_line g empty ls x = refl
-through_line g (step n b) ls x = refl
+through_line : (g : Transition → Memory → Memory) (l : Tree) (ls : List Tree) (x : Memory) →
+    through g (transitions_in ls) (on_line g l x) ≡ through g (transitions_in (l ∷ ls)) x
 through_line g (trans n fs ts c us) ls x = refl
-through_line g (hold n q) ls x = refl
-through_line g (enter n a q) ls x = refl
+through_line g _ ls x = refl
 
 -- words of every line do what the words of each line do
-pub lines_run : (f : Tree → List Instruction) (g : Transition → Memory → Memory) → ((l : Tree) (m : Machine) → (run (f l) m).memory ≡ on_line g l m.memory) → (ls : List Tree) (m : Machine) → (run (each f ls) m).memory ≡ through g (transitions_in ls) m.memory
+pub lines_run : (f : Tree → List Instruction) (g : Transition → Memory → Memory) →
+    ((l : Tree) (m : Machine) → (run (f l) m).memory ≡ on_line g l m.memory) → (ls : List Tree) (m : Machine) →
+    (run (each f ls) m).memory ≡ through g (transitions_in ls) m.memory
 lines_run f g h [] m = refl
 lines_run f g h (l ∷ ls) m =
     ap (λ (k : Machine). k.memory) (run_append (f l) (each f ls) m)
@@ -97,11 +101,9 @@ lines_run f g h (l ∷ ls) m =
 
 -- ---- the enter lines
 -- the stored outputs change as the entries say, and nothing else does
-pub enter_run : (ls : List Tree) (m : Machine) → (run (enter_part ls) m).memory ≡ with_state m.memory.active (entered (newly_active m.memory.before m.memory.active) (entries_in ls) m.memory.stored) m.memory
+pub enter_run : (ls : List Tree) (m : Machine) →
+    (run (enter_part ls) m).memory ≡ with_state m.memory.active (entered (newly_active m.memory.before m.memory.active) (entries_in ls) m.memory.stored) m.memory
 enter_run [] m = refl
-enter_run (empty ∷ ls) m = enter_run ls m
-enter_run (step n b ∷ ls) m = enter_run ls m
-enter_run (trans n fs ts c us ∷ ls) m = enter_run ls m
-enter_run (hold n q ∷ ls) m = enter_run ls m
 enter_run (enter n action.Set q ∷ ls) m = enter_run ls (run (enter_words (enter n action.Set q)) m)
 enter_run (enter n action.Reset q ∷ ls) m = enter_run ls (run (enter_words (enter n action.Reset q)) m)
+enter_run (_ ∷ ls) m = enter_run ls m

@@ -1,5 +1,6 @@
 -- The start state, by the words of a program and by its chart. Assumes nothing.
-use Rattle.std.proofs.Common.{◌≡◌, ℕ, Bool, true, false, cond, not, ◌&&◌, List, [], ◌∷◌, sym, refl, ap, ◌∙◌}
+use Rattle.std.proofs.Common.{◌≡◌, ℕ, cond, not, ◌&&◌, List, [], ◌∷◌, sym, refl, ap, ◌∙◌}
+use Rattle.std.proofs.Math.Bool.{and-true}
 use Rattle.codefile.specs.declared.program.Program.{Program}
 use Rattle.codefile.specs.File.{Code}
 use Rattle.codefile.specs.Loads.{code_in}
@@ -20,22 +21,22 @@ use Rattle.evolution.proofs.Lawful.{chart_instructions}
 use Rattle.evolution.proofs.Running.{enter_run}
 
 -- what is on of the initial steps was not before
-and_on : (a : Bool) → (a && not false) ≡ a
-and_on true = refl
-and_on false = refl
-
 entered_first : (es : List Entry) (x q : ℕ) → entered (newly_active 0 x) es q ≡ entered (λ n. bit n x) es q
 entered_first [] x q = refl
 entered_first (e ∷ es) x q =
     entered_first es x (cond (newly_active 0 x e.step) (acted e.action e.output q) q)
-    ∙ ap (λ b. entered (λ n. bit n x) es (cond b (acted e.action e.output q) q)) (ap (λ b. bit e.step x && not b) (bit_nought e.step) ∙ and_on (bit e.step x))
+    ∙ ap (λ b. entered (λ n. bit n x) es (cond b (acted e.action e.output q) q))
+    (ap (λ b. bit e.step x && not b) (bit_nought e.step) ∙ and-true (bit e.step x))
 
 -- the memory before the enter part, with these steps initial
 abbrev begun : ℕ → Memory
 begun initial = showing 0 no_edges (record { active = initial; stored = 0 })
 
-start_run : (ls : List Tree) (x : ℕ) → state_in (run (enter_part ls) (begin (begun x))).memory ≡ record { active = x; stored = entered (λ n. bit n x) (entries_in ls) 0 }
-start_run ls x = ap state_in (enter_run ls (begin (begun x))) ∙ ap (λ (q : ℕ). let s : State = record { active = x; stored = q } in s) (entered_first (entries_in ls) x 0)
+start_run : (ls : List Tree) (x : ℕ) →
+    state_in (run (enter_part ls) (begin (begun x))).memory ≡ record { active = x; stored = entered (λ n. bit n x) (entries_in ls) 0 }
+start_run ls x =
+    ap state_in (enter_run ls (begin (begun x)))
+    ∙ ap (λ (q : ℕ). let s : State = record { active = x; stored = q } in s) (entered_first (entries_in ls) x 0)
 
 pub start_as : (c : Chart) (p : Program) → CompiledFrom c p → start p ≡ rules.start c
 unfolding after

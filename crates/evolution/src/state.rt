@@ -1,6 +1,7 @@
 //! States.
-use search::Same;
 ghost use Rattle.std.proofs.Common.{rules};
+
+use search::Same;
 
 /// The active steps, and the stored outputs that are on.
 #[derive(Clone, Copy, PartialEq, Eq, Debug)]

@@ -6,7 +6,7 @@ use Rattle.std.proofs.lemmas.Nat.{shr-shr, pow_below}
 use Rattle.std.proofs.lemmas.Bool.{cond-true, cond-false, cases_Bool, ltb-true, ltb-false}
 use Rattle.std.proofs.lemmas.Bool.Decides.{nat_tests}
 use Rattle.frames.specs.Edges.{only_in}
-use Rattle.frames.specs.Bits.{bit, mask, on, off, TurnedOn, TurnedOff, pack}
+use Rattle.frames.specs.Bits.{bit, mask, on, off, TurnedOn, pack}
 
 pub bit_zero : (x : ℕ) → bit 0 x ≡ eqb (x % 2) 1
 unfolding bit
@@ -130,21 +130,11 @@ on_below b e l h = grind (arith, nat_tests, h)
 on_above : (b c e l : Bool) → c ≡ false → b ≡ false → l ≡ false → c ≡ (b || e && l)
 on_above b c e l h i j = grind (arith, nat_tests, h, i, j)
 
-off_above : (b c e : Bool) → c ≡ false → b ≡ false → c ≡ (b && not e)
-off_above b c e h i = grind (arith, nat_tests, h, i)
-
 pub turned_on : (x n : ℕ) → x < 2 ^ 64 → TurnedOn x n (on x n)
 turned_on x n hx k =
     ⊎_elim
     (λ t. bit_on k x n (ltb-true k 64 t) ∙ on_below (bit k x) (eqb k n) (ltb k 64) t)
     (λ f. let above = ltb-false k 64 f in on_above (bit k x) _ (eqb k n) (ltb k 64) (bit_above k (on x n) (on_fits x n hx) above) (bit_above k x hx above) f)
-    (cases_Bool (ltb k 64))
-
-pub turned_off : (x n : ℕ) → x < 2 ^ 64 → TurnedOff x n (off x n)
-turned_off x n hx k =
-    ⊎_elim
-    (λ t. bit_off k x n (ltb-true k 64 t))
-    (λ f. let above = ltb-false k 64 f in off_above (bit k x) _ (eqb k n) (bit_above k (off x n) (off_fits x n hx) above) (bit_above k x hx above))
     (cases_Bool (ltb k 64))
 
 -- ---- a number is its bits

@@ -1,6 +1,6 @@
 -- A frame: a number below 2 ^ 64, read as 64 bits. Assumes nothing.
 use Rattle.std.specs.Prelude.{ℕ, zero, suc, ◌+◌, ◌-◌, ◌*◌, ◌/◌, ◌%◌, ◌^◌, Bool, cond, ◌==◌, bit_and, bit_or, nat_lt}
-use Rattle.std.specs.Prelude.{◌≡◌, ◌&&◌, ◌||◌, not}
+use Rattle.std.specs.Prelude.{◌≡◌, ◌&&◌, ◌||◌}
 
 -- whether bit n of x is on; of a frame no bit above 63 is
 unfoldable pub bit : ℕ → ℕ → Bool
@@ -21,10 +21,6 @@ off x n = bit_and x (2 ^ 64 - 1 - mask n)
 -- y has the bits of x, and bit n as well if there is one
 abbrev pub TurnedOn : ℕ → ℕ → ℕ → Type 0
 TurnedOn x n y = (k : ℕ) → bit k y ≡ (bit k x || k == n && nat_lt k 64)
-
--- y has the bits of x, but for bit n
-abbrev pub TurnedOff : ℕ → ℕ → ℕ → Type 0
-TurnedOff x n y = (k : ℕ) → bit k y ≡ (bit k x && not (k == n))
 
 -- the number whose first k bits are as f says, and no other is on
 abbrev pub pack : ℕ → (ℕ → Bool) → ℕ

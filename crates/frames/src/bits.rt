@@ -1,6 +1,6 @@
 //! Single bits of a frame, by their numbers. A number above 63 has no bit.
 ghost use Rattle.std.specs.Prelude.{◌≡◌, ◌%◌, ◌==◌};
-ghost use Rattle.frames.specs.Bits.{bit, on, off, TurnedOn, TurnedOff};
+ghost use Rattle.frames.specs.Bits.{bit, on, TurnedOn};
 ghost use Rattle.frames.specs.Bits.{mask as masked};
 
 // The frame with this bit alone.
@@ -35,13 +35,4 @@ pub fn with_on(frame: u64, number: u8) -> u64
     ensures bits { TurnedOn frame number result }
 {
     frame | mask(number)
-}
-
-/// The frame with the bit off.
-#[tactic(auto, using(crate::proofs::BitLaws::turned_off))]
-pub fn with_off(frame: u64, number: u8) -> u64
-    ensures is { result ≡ off frame number }
-    ensures bits { TurnedOff frame number result }
-{
-    frame & !mask(number)
 }

@@ -1,5 +1,5 @@
 //! The machine while it runs a part: one instruction after the other.
-ghost use Rattle.std.specs.Prelude.{◌≡◌, ◌+◌, ◌-◌, ◌<◌, ◌≤◌, ◌∷◌, not, IsTrue};
+ghost use Rattle.std.specs.Prelude.{◌≡◌, ◌+◌, ◌-◌, ◌<◌, ◌≤◌, ◌∷◌, false};
 ghost use Rattle.words.specs.Words.{number_in, word_of};
 ghost use Rattle.words.specs.Brackets.{spoils, after};
 ghost use Rattle.machine.specs.Machine.{begin, joined as joined_by, step as stepped};
@@ -8,11 +8,11 @@ use crate::memory::{Bracket, Memory};
 use words::instruction::Instruction;
 
 // The result, the brackets, of which the first `depth` are open, and the memory.
-#[derive(Clone, Copy)]
+#[derive(Drop)]
 pub(crate) struct Machine {
-    pub(crate) result: bool,
-    pub(crate) brackets: [Bracket; 17],
-    pub(crate) depth: usize,
+    result: bool,
+    brackets: [Bracket; 17],
+    depth: usize,
     pub(crate) memory: Memory,
     ghost within: { depth ≤ 17 },
 }
@@ -71,7 +71,7 @@ impl Machine {
     // Runs an instruction.
     pub(crate) fn step(&mut self, instruction: Instruction)
         requires number { number_in instruction < 64 }
-        requires brackets { IsTrue (not (spoils self.old.depth (word_of instruction))) }
+        requires brackets { spoils self.old.depth (word_of instruction) ≡ false }
         ensures state { view self.new ≡ stepped instruction (view self.old) }
         ensures depth { self.new.depth ≡ after self.old.depth (word_of instruction) }
     {

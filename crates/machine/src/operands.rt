@@ -1,7 +1,8 @@
 //! What an instruction reads and writes of the memory.
 ghost use Rattle.std.specs.Prelude.{◌≡◌, ◌<◌};
 ghost use Rattle.words.specs.Words.{operand_number, target_number};
-ghost use Rattle.machine.specs.Machine.{value, stored as stored_as, set as set_if, reset as reset_if, with_cleared, with_held, altered};
+ghost use Rattle.machine.specs.Machine.{value, stored as stored_if, set as set_if, reset as reset_if};
+ghost use Rattle.machine.specs.Machine.{with_cleared, with_held, altered};
 
 use crate::bits::{has, with, without};
 use crate::memory::Memory;
@@ -28,7 +29,7 @@ impl Memory {
     // Writes the result to a cleared transition.
     pub(crate) fn store(&mut self, on: bool, number: u8)
         requires { number < 64 }
-        ensures { self.new ≡ with_cleared (stored_as on number self.old.cleared) self.old }
+        ensures { self.new ≡ with_cleared (stored_if on number self.old.cleared) self.old }
     {
         self.cleared = if on {
             with(self.cleared, number)

@@ -10,6 +10,7 @@ use words::instruction::Part;
 
 impl Memory {
     /// Runs the words of a part of a program. What the program's loading has tested is not tested again.
+    #[tactic(auto, unfolding(crate::specs::Machine::after))]
     pub fn run(&mut self, program: &Program, part: Part)
         ensures { self.new ≡ after part program.now self.old }
     {

@@ -1,7 +1,7 @@
-use Rattle.std.proofs.Common.{◌+◌, not, map, drop, sym, ap, ◌∙◌, arith}
+use Rattle.std.proofs.Common.{◌+◌, map, drop, sym, ap, ◌∙◌, arith}
 use Rattle.words.specs.Words.{instruction_of, word_of}
 use Rattle.words.specs.Brackets.{sound, spoils, after as depth_after}
-use Rattle.machine.specs.Machine.{begin, run, step, after}
+use Rattle.machine.specs.Machine.{run, step}
 use Rattle.machine.specs.View.{view}
 use Rattle.machine.proofs.Words.{next, run-more, run-all}
 use Rattle.machine.proofs.memory.Memory.run.Goals as goal
@@ -10,7 +10,7 @@ pub step-requires-clause-brackets : goal.step-requires-clause-brackets
 step-requires-clause-brackets c =
     let m = c.loop-word.machine in
     let n = next c.args.part m.depth c.loop-word.word-index c.words-word-items.result.now (omega arith) c.loop-word.invariant.sound in
-    ap (λ i. not (spoils m.depth (word_of i))) c.instruction.ensures ∙ n.brackets
+    ap (λ i. spoils m.depth (word_of i)) c.instruction.ensures ∙ n.brackets
 
 pub loop-word-preserved : goal.loop-word-preserved
 loop-word-preserved c =
@@ -20,13 +20,10 @@ loop-word-preserved c =
     let n = next c.args.part m.depth i ws (omega arith) c.loop-word.invariant.sound in
     record {
       sound = ap (λ d. sound c.args.part d (drop (i + 1) ws)) (c.step.ensures.depth ∙ ap (λ k. depth_after m.depth (word_of k)) c.instruction.ensures) ∙ n.sound;
-      state = ap (run (map instruction_of (drop (i + 1) ws))) (c.step.ensures.state ∙ ap (λ k. step k (view m)) c.instruction.ensures)
+      end = ap (λ k. (run (map instruction_of (drop (i + 1) ws)) k).memory) (c.step.ensures.state ∙ ap (λ k. step k (view m)) c.instruction.ensures)
           ∙ sym (run-more i ws (view m) (omega arith))
-          ∙ c.loop-word.invariant.state;
+          ∙ c.loop-word.invariant.end;
     }
 
 pub returns : goal.returns
-unfolding after
-returns c =
-    run-all c.loop-word.word-index c.words-word-items.result.now (view c.loop-word.machine) (omega arith)
-    (c.loop-word.invariant.state ∙ ap (λ ws. run (map instruction_of ws) (begin c.args.self.now)) c.words-word-items.ensures.words)
+returns c = run-all c.loop-word.word-index c.words-word-items.result.now (view c.loop-word.machine) (omega arith) c.loop-word.invariant.end
