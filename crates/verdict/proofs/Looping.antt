@@ -22,7 +22,7 @@ pub record Known {S : Type 0} (stable : S → Bool) (s : ℕ → S) (n : ℕ) (x
   pub so_far : SoFar stable s n
 
 -- ---- before s(1), and from s(n + 1) to s(n + 2)
-so_far_none : {S : Type 0} (stable : S → Bool) (s : ℕ → S) → SoFar stable s 0
+pub so_far_none : {S : Type 0} (stable : S → Bool) (s : ℕ → S) → SoFar stable s 0
 so_far_none stable s = record { none = λ i low few. absurd (omega arith); apart = λ i h low less few e. absurd (omega arith) }
 
 pub known_none : {S : Type 0} (stable : S → Bool) (s : ℕ → S) (x : S) (xs : List S) → x ≡ s 1 → Known stable s 0 x xs

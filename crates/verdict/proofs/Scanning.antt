@@ -8,9 +8,10 @@ use Rattle.search.specs.Earliest.{Earliest}
 use Rattle.machine.specs.declared.memory.Memory.{Memory}
 use Rattle.evolution.specs.declared.state.State.{State}
 use Rattle.evolution.specs.Chart.{Chart}
-use Rattle.evolution.specs.Rules as chart
 use Rattle.evolution.specs.Words.{ran, reached, kept}
 use Rattle.evolution.specs.Words as words
+use Rattle.evolution.specs.Agreement.{CompiledFrom}
+use Rattle.evolution.proofs.Agreeing.{evolved_as, stable_as, evolved_fits}
 use Rattle.verdict.specs.declared.outcome.Outcome.{Outcome}
 use Rattle.verdict.specs.declared.outcome.Verdict.{Verdict}
 use Rattle.verdict.specs.declared.outcome.Verdict.TheVariants.{Stable, Circling, Overlong}
@@ -20,12 +21,9 @@ use Rattle.verdict.proofs.Judging.{Follows, Alike, verdicts, verdicts_as}
 use Rattle.verdict.proofs.Looping.{Known, known_more, found_stable, found_circle, found_neither, found_at}
 
 -- ---- by any rules
--- a stable state is followed by itself
-pub record Rests (rules : Rules) : Type 0 where
-  pub rests : (x : State) → rules.stable x ≡ true → rules.evolved no_edges x ≡ x
-
-pub follows : (rules : Rules) (edges : Edges) (s : State) → Rests rules → Follows rules.stable (states rules edges s)
-follows rules edges s r = record { alike = alike; stays = stays }
+-- the states of a scan, where a stable one evolves to itself
+pub follows : (rules : Rules) (edges : Edges) (s : State) → ((n : ℕ) → rules.stable (states rules edges s (suc n)) ≡ true → rules.evolved no_edges (states rules edges s (suc n)) ≡ states rules edges s (suc n)) → Follows rules.stable (states rules edges s)
+follows rules edges s rests = record { alike = alike; stays = stays }
   where
     all : ℕ → State
     all = states rules edges s
@@ -37,7 +35,7 @@ follows rules edges s r = record { alike = alike; stays = stays }
 
     stays : (n : ℕ) → 1 ≤ n → rules.stable (all n) ≡ true → all (suc n) ≡ all n
     stays zero l q = absurd (omega arith)
-    stays (suc n) l q = r.rests (all (suc n)) q
+    stays (suc n) l q = rests n q
 
 settled_as : (v : Verdict) (s s′ : ℕ → State) → ((n : ℕ) → s n ≡ s′ n) → settled v s ≡ settled v s′
 settled_as (Stable m) s s′ e = e m
@@ -49,8 +47,8 @@ pub scanned_as : {rules rules′ : Rules} {edges : Edges} {s : State} {r : Outco
 scanned_as {r = r} a h = record { verdict = verdicts_as a h.verdict; state = h.state ∙ settled_as r.verdict _ _ a.same }
 
 -- ---- by words
-pub words_rest : (p : Program) (inputs : ℕ) → Rests (by_words p inputs)
-words_rest p inputs = record { rests = λ x q. ap (kept x) (cond-true (eqb (ran p inputs no_edges x).cleared 0) _ _ q) }
+by_program : (p : Program) (inputs : ℕ) (edges : Edges) (s : State) → Follows (words.stable p inputs) (states (by_words p inputs) edges s)
+by_program p inputs edges s = follows (by_words p inputs) edges s (λ n q. ap (kept _) (cond-true (eqb (ran p inputs no_edges _).cleared 0) _ _ q))
 
 -- T is empty where the evolution gives no state
 rested : (m : Memory) → None ≡ reached m → eqb m.cleared 0 ≡ true
@@ -64,7 +62,7 @@ abbrev pub At : Program → ℕ → Edges → State → ℕ → State → List S
 At p inputs edges s n x xs = Known (by_words p inputs).stable (states (by_words p inputs) edges s) n x xs
 
 pub stops : (p : Program) (inputs : ℕ) (edges : Edges) (s : State) (n : ℕ) (x : State) (xs : List State) → At p inputs edges s n x xs → n < 64 → None ≡ reached (ran p inputs no_edges x) → Scanned (by_words p inputs) edges s (record { verdict = Stable (n + 1); state = x })
-stops p inputs edges s n x xs k l h = rw add-one (record { verdict = verdicts (follows rules edges s (words_rest p inputs)) (Stable (suc n)) (found_stable k.so_far l stable); state = k.current })
+stops p inputs edges s n x xs k l h = rw add-one (record { verdict = verdicts (by_program p inputs edges s) (Stable (suc n)) (found_stable k.so_far l stable); state = k.current })
   where
     rules : Rules
     rules = by_words p inputs
@@ -79,7 +77,7 @@ repeats p inputs edges s n x y xs j k l h e = rw (add-one j, add-one n) (record 
     rules = by_words p inputs
 
     f : Follows rules.stable (states rules edges s)
-    f = follows rules edges s (words_rest p inputs)
+    f = by_program p inputs edges s
 
     at : (j < n) × (states rules edges s (suc j) ≡ states rules edges s (suc n))
     at = found_at k j e
@@ -94,28 +92,22 @@ goes_on p inputs edges s n x y xs k l h e = rw add-one (known_more y l k (moved 
     next = ap (kept x) h ∙ ap (words.evolved p inputs no_edges) k.current
 
 pub ends : (p : Program) (inputs : ℕ) (edges : Edges) (s : State) (n : ℕ) (x : State) (xs : List State) → At p inputs edges s n x xs → 64 ≤ n → Scanned (by_words p inputs) edges s (record { verdict = Overlong; state = s })
-ends p inputs edges s n x xs k l = record { verdict = verdicts (follows (by_words p inputs) edges s (words_rest p inputs)) Overlong (found_neither l k.so_far); state = refl }
+ends p inputs edges s n x xs k l = record { verdict = verdicts (by_program p inputs edges s) Overlong (found_neither l k.so_far); state = refl }
 
--- ---- by a chart
--- the words and the rules of the chart agree on every state that fits
-pub record Agree (c : Chart) (p : Program) (inputs : ℕ) : Type 0 where
-  pub evolved : (e : Edges) (x : State) → x.active < 2 ^ 64 → words.evolved p inputs e x ≡ chart.evolved c inputs e x
-  pub at_rest : (e : Edges) (x : State) → x.active < 2 ^ 64 → eqb (ran p inputs e x).cleared 0 ≡ chart.at_rest c inputs e x
-  pub fits : (e : Edges) (x : State) → (chart.evolved c inputs e x).active < 2 ^ 64
-
+-- ---- by a chart: the words and the rules agree on every state, since each fits
 record SameAt (c : Chart) (p : Program) (inputs : ℕ) (edges : Edges) (s : State) (n : ℕ) : Type 0 where
   same : states (by_words p inputs) edges s n ≡ states (by_chart c inputs) edges s n
   fits : (states (by_chart c inputs) edges s n).active < 2 ^ 64
 
-same_at : {c : Chart} {p : Program} {inputs : ℕ} (edges : Edges) (s : State) → Agree c p inputs → s.active < 2 ^ 64 → (n : ℕ) → SameAt c p inputs edges s n
-same_at edges s a l zero = record { same = refl; fits = l }
-same_at {c} {p} {inputs} edges s a l (suc n) =
-    let i = same_at edges s a l n in
+same_at : {c : Chart} {p : Program} (inputs : ℕ) (edges : Edges) (s : State) → CompiledFrom c p → s.active < 2 ^ 64 → (n : ℕ) → SameAt c p inputs edges s n
+same_at inputs edges s k l zero = record { same = refl; fits = l }
+same_at {c} {p} inputs edges s k l (suc n) =
+    let i = same_at inputs edges s k l n in
     let e = edges_from edges n in
-    record { same = ap (words.evolved p inputs e) i.same ∙ a.evolved e _ i.fits; fits = a.fits e _ }
+    record { same = ap (words.evolved p inputs e) i.same ∙ evolved_as c p inputs e _ k i.fits; fits = evolved_fits c inputs e _ }
 
-pub by_chart_too : (c : Chart) (p : Program) (inputs : ℕ) (edges : Edges) (s : State) (r : Outcome) → Agree c p inputs → s.active < 2 ^ 64 → Scanned (by_words p inputs) edges s r → Scanned (by_chart c inputs) edges s r
-by_chart_too c p inputs edges s r a l = scanned_as (record {
-  same = λ n. (same_at edges s a l n).same;
-  rest = λ n. let i = same_at edges s a l n in ap (words.stable p inputs) i.same ∙ a.at_rest no_edges _ i.fits;
-})
+pub by_chart_too : (p : Program) (inputs : ℕ) (edges : Edges) (s : State) (r : Outcome) → s.active < 2 ^ 64 → Scanned (by_words p inputs) edges s r → (c : Chart) → CompiledFrom c p → Scanned (by_chart c inputs) edges s r
+by_chart_too p inputs edges s r l h c k = scanned_as (record {
+  same = λ n. (same_at inputs edges s k l n).same;
+  rest = λ n. let i = same_at inputs edges s k l n in ap (words.stable p inputs) i.same ∙ stable_as c p inputs _ k i.fits;
+}) h
