@@ -1,4 +1,5 @@
 pub mod Verdicts
 pub mod Scans
 pub mod Rules
+pub mod Table
 pub mod Shown

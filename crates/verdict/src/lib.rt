@@ -2,4 +2,6 @@
 #![tactic(auto)]
 
 pub mod outcome;
+pub mod scan;
 mod shown;
+pub mod table;

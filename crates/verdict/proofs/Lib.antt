@@ -1,0 +1,4 @@
+pub mod Judging
+pub mod Looping
+pub mod Scanning
+pub mod Worked
