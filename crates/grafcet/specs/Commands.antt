@@ -1,7 +1,7 @@
 -- What the arguments of the program ask for. Assumes nothing.
-use Rattle.std.specs.Prelude.{◌≡◌, ℕ, ◌+◌, ◌<◌, ◌≤◌, List, [], length, Some, None, codes, Option, ◌≢◌, slice_index_or}
+use Rattle.std.specs.Prelude.{◌≡◌, ℕ, ◌+◌, ◌<◌, ◌≤◌, List, [], map, drop, string_bytes, length, Some, None, codes, Option, ◌≢◌, slice_index_or}
 use Rattle.grafcet.specs.declared.Command.{Command}
-use Rattle.grafcet.specs.declared.Command.TheVariants.{Demo, Compile, Load}
+use Rattle.grafcet.specs.declared.Command.TheVariants.{Demo, Compile, Load, Scan}
 
 -- text k of the arguments; the first one, text 0, is the program's own name
 abbrev pub text : List (List ℕ) → ℕ → List ℕ
@@ -21,4 +21,8 @@ Asks texts (Some Demo) = length texts ≤ 1
 Asks texts (Some (Compile chart out)) =
     Says texts (codes "compile") 2 × (chart.now ≡ text texts 2) × (out.now ≡ text texts 3)
 Asks texts (Some (Load path)) = Says texts (codes "load") 1 × (path.now ≡ text texts 2)
+Asks texts (Some (Scan code frames)) =
+    (3 ≤ length texts) × (text texts 1 ≡ codes "scan") × (code.now ≡ text texts 2)
+    × (map string_bytes frames.now ≡ drop 3 texts)
 Asks texts None = (1 < length texts) × Silent texts (codes "compile") 2 × Silent texts (codes "load") 1
+    × (3 ≤ length texts → text texts 1 ≢ codes "scan")

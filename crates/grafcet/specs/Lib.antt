@@ -2,3 +2,4 @@ pub mod Commands
 pub mod Damages
 pub mod Excerpts
 pub mod Positions
+pub mod Scans

@@ -1,11 +1,12 @@
-//! `grafcet` alone: a chart text is compiled, its code file is loaded and listed, and wrong texts and damaged files are
-//! refused.
+//! `grafcet` alone: a chart text is compiled, its code file is loaded and listed, frames are scanned, and wrong texts and
+//! damaged files are refused.
 use crate::cause::cause_of;
 use crate::compiling::{LONGEST_FILE, print_compiled};
 use crate::damage::{Damage, try_damaged};
-use crate::example::{TEXT, WRONG};
+use crate::example::{FRAMES, TEXT, TURNS, WRONG};
 use crate::failure::Failure;
 use crate::listing::{print_loaded, print_words};
+use crate::showing::show_scans;
 use codefile::program::Program;
 use compile::compiler::Compiler;
 use faults::Fault;
@@ -62,6 +63,30 @@ fn try_damages(rt: &HostRuntime, program: &mut Program, file: &[u8]) -> Result<(
     Ok(())
 }
 
+fn try_turns(
+    rt: &HostRuntime,
+    compiler: &mut Compiler,
+    buffer: &mut [u8],
+    program: &mut Program,
+) -> Result<(), Failure> {
+    println!(rt; "\nA chart that never comes to rest:")?;
+    print_text(rt, TURNS)?;
+    compiler.build(TURNS.as_bytes(), buffer, program)?;
+    show_scans(rt, program, &FRAMES)?;
+    Ok(())
+}
+
+// The program of the chart: its code file, its words, and scans of some frames.
+fn show_program(rt: &HostRuntime, program: &Program, length: usize) -> io::Result<()> {
+    println!(rt; "\nCompiled to a code file:")?;
+    print_compiled(rt, length)?;
+    println!(rt; "\nThe code file, loaded into a program:")?;
+    print_loaded(rt, program)?;
+    print_words(rt, program)?;
+    println!(rt; "\nScans of the program, each delivered:")?;
+    show_scans(rt, program, &FRAMES)
+}
+
 pub fn run(rt: &HostRuntime) -> Result<(), Failure> {
     println!(rt; "The chart:")?;
     print_text(rt, TEXT)?;
@@ -69,11 +94,8 @@ pub fn run(rt: &HostRuntime) -> Result<(), Failure> {
     let mut program = Program::new(rt.alloc())?;
     let mut buffer = vec![in rt.alloc(); 0u8; LONGEST_FILE]?;
     let length = compiler.build(TEXT.as_bytes(), &mut buffer, &mut program)?;
-    println!(rt; "\nCompiled to a code file:")?;
-    print_compiled(rt, length)?;
-    println!(rt; "\nThe code file, loaded into a program:")?;
-    print_loaded(rt, &program)?;
-    print_words(rt, &program)?;
+    show_program(rt, &program, length)?;
+    try_damages(rt, &mut program, &buffer[..length])?;
     try_texts(rt, &mut compiler, &mut buffer)?;
-    try_damages(rt, &mut program, &buffer[..length])
+    try_turns(rt, &mut compiler, &mut buffer, &mut program)
 }

@@ -8,6 +8,16 @@ hold 1 Q0
 enter 1 set Q1
 ";
 
+/// The frames of docs/chart.md for this chart.
+pub const FRAMES: [u64; 4] = [0, 1, 2, 3];
+
+/// A chart whose two steps take turns for ever.
+pub const TURNS: &str = "step 0 initial
+step 1
+trans 0 from 0 to 1 when 1
+trans 1 from 1 to 0 when 1
+";
+
 /// Texts with a fault each.
 pub const WRONG: [&str; 7] = [
     "",

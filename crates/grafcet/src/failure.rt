@@ -14,6 +14,8 @@ pub enum Failure {
     Arguments(io::Error),
     /// They name no command.
     Usage,
+    /// An argument is no frame.
+    NoFrame,
     /// The file cannot be read.
     Unreadable(io::Error),
     /// The file is refused.
@@ -35,8 +37,9 @@ impl fmt::Display for Failure {
             Failure::Arguments(error) => write!(f, "the arguments cannot be read: {error}"),
             Failure::Usage => write!(
                 f,
-                "grafcet\n       grafcet compile CHART OUT\n       grafcet load FILE"
+                "grafcet\n       grafcet compile CHART OUT\n       grafcet load FILE\n       grafcet scan CODE FRAME.."
             ),
+            Failure::NoFrame => write!(f, "a frame is a number from 0 to 18446744073709551615"),
             Failure::Unreadable(error) => write!(f, "cannot be read: {error}"),
             Failure::Refused(fault) => {
                 let place = fault.place();

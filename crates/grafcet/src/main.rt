@@ -15,6 +15,8 @@ mod files;
 mod listing;
 mod load;
 mod position;
+mod scanning;
+mod showing;
 
 use failure::Failure;
 use std::env;
@@ -27,6 +29,8 @@ enum Command<'a> {
     /// The chart in a file, and the file that its code goes to.
     Compile { chart: &'a str, out: &'a str },
     Load(&'a str),
+    /// The frames that a code file is scanned with.
+    Scan { code: &'a str, frames: &'a [String] },
 }
 
 // The first argument is the program's own name.
@@ -41,6 +45,10 @@ fn command_of(args: &[String]) -> Option<Command<'_>>
             out: out.as_str(),
         }),
         [_, word, path] if word.as_str() == "load" => Some(Command::Load(path.as_str())),
+        [_, word, code, frames @ ..] if word.as_str() == "scan" => Some(Command::Scan {
+            code: code.as_str(),
+            frames,
+        }),
         _ => None,
     }
 }
@@ -70,6 +78,7 @@ fn perform(rt: &HostRuntime, args: &[String]) -> Result<(), Failure> {
             told(rt, subject, outcome)
         }
         Some(Command::Load(path)) => told(rt, path, load::run(rt, path)),
+        Some(Command::Scan { code, frames }) => told(rt, code, scanning::run(rt, code, frames)),
         None => told(rt, "usage", Err(Failure::Usage)),
     }
 }

@@ -1,0 +1,125 @@
+//! Scans of a program, frame by frame, and `grafcet scan CODE FRAME..`: the scans of a code file.
+ghost use Rattle.std.specs.Prelude.{◌≡◌, None as NoFrame};
+ghost use Rattle.frames.specs.Edges.{edges_between};
+ghost use Rattle.evolution.specs.Words.{start};
+ghost use Rattle.verdict.specs.Rules.{by_words};
+ghost use Rattle.verdict.specs.Scans.{Scanned as IsScanned};
+ghost use Rattle.grafcet.specs.Scans.{delivered as delivered_frame, resumed};
+
+use crate::failure::Failure;
+use crate::files::read_file;
+use codefile::program::Program;
+use evolution::state::State;
+use faults::Fault;
+use std::io;
+use verdict::outcome::{Outcome, Verdict};
+use verdict::scan::scan;
+
+/// What a frame came to, and the frame that is delivered.
+#[derive(Clone, Copy, PartialEq, Eq, Debug)]
+pub struct Scanned {
+    pub inputs: u64,
+    pub outcome: Outcome,
+    pub outputs: u64,
+}
+
+/// What the next frame is scanned from: a state, and the frame before, if there is one.
+#[derive(Clone, Copy, PartialEq, Eq, Debug)]
+pub struct Standing {
+    pub state: State,
+    pub previous: Option<u64>,
+}
+
+// The output frame of a stable state, and otherwise no output.
+fn delivered(program: &Program, outcome: Outcome, inputs: u64) -> u64
+    ensures { result ≡ delivered_frame program.now outcome inputs }
+{
+    match outcome.verdict {
+        Verdict::Stable(_) => outcome.state.outputs(program, inputs),
+        Verdict::Circling(..) | Verdict::Overlong => 0,
+    }
+}
+
+impl Standing {
+    /// The start state, and no previous frame.
+    pub fn start(program: &Program) -> Standing
+        ensures { result ≡ record { state = start program.now; previous = NoFrame } }
+    {
+        Standing {
+            state: State::start(program),
+            previous: None,
+        }
+    }
+
+    // The next frame is scanned from a stable state and this frame; after any other outcome, from where it was.
+    fn after(self, outcome: Outcome, inputs: u64) -> Standing
+        ensures { result ≡ resumed self outcome inputs }
+    {
+        match outcome.verdict {
+            Verdict::Stable(_) => Standing {
+                state: outcome.state,
+                previous: Some(inputs),
+            },
+            Verdict::Circling(..) | Verdict::Overlong => self,
+        }
+    }
+
+    /// Scans a frame and delivers.
+    pub fn take(&mut self, program: &Program, inputs: u64) -> Scanned
+        ensures scanned { IsScanned (by_words program.now inputs) (edges_between self.old.previous inputs) self.old.state
+            result.outcome }
+        ensures inputs { result.inputs ≡ inputs }
+        ensures outputs { result.outputs ≡ delivered_frame program.now result.outcome inputs }
+        ensures standing { self.new ≡ resumed self.old result.outcome inputs }
+    {
+        let outcome = scan(program, self.state, self.previous, inputs);
+        let outputs = delivered(program, outcome, inputs);
+        *self = self.after(outcome, inputs);
+        Scanned {
+            inputs,
+            outcome,
+            outputs,
+        }
+    }
+}
+
+// A line for each frame. A scan that is not stable is the last one.
+fn print_scans(rt: &HostRuntime, program: &Program, frames: &[u64]) -> io::Result<()> {
+    let mut standing = Standing::start(program);
+    for &frame in frames {
+        let Scanned {
+            inputs,
+            outcome,
+            outputs,
+        } = standing.take(program, frame);
+        let Outcome { verdict, state } = outcome;
+        let active = state.active;
+        println!(rt; "{inputs} {verdict} {outputs:016x} {active:016x}")?;
+        if !matches!(verdict, Verdict::Stable(_)) {
+            break;
+        }
+    }
+    Ok(())
+}
+
+// The frames that the arguments name.
+fn frames_of(rt: &HostRuntime, texts: &[String]) -> Result<Vec<u64>, Failure> {
+    let mut frames = vec![in rt.alloc(); 0u64; texts.len()]?;
+    for (frame, text) in frames.iter_mut().zip(texts) {
+        *frame = text.parse::<u64>().map_err(|_| Failure::NoFrame)?;
+    }
+    Ok(frames)
+}
+
+pub fn run(rt: &HostRuntime, path: &str, texts: &[String]) -> Result<(), Failure> {
+    let frames = frames_of(rt, texts)?;
+    let bytes = read_file(rt, path)?;
+    let mut program = Program::new(rt.alloc())?;
+    if let Err(e) = program.load(&bytes) {
+        let fault = Fault::from(e);
+        println!(rt; "refused {fault}")?;
+        return Err(Failure::Refused(fault));
+    }
+    print_scans(rt, &program, &frames)?;
+    Ok(())
+}
