@@ -12,7 +12,7 @@ use frames::edges::Edges;
 use search::earliest;
 
 // The scan of a frame with these edges. Two equal states with none stable settle it at once.
-#[tactic(auto, using(crate::proofs::Scanning::loop_lemmas))]
+#[tactic(auto, using(crate::proofs::Settling::loop_lemmas))]
 fn settle(program: &Program, state: State, edges: Edges, inputs: u64) -> Outcome
     ensures { Scanned (by_words program.now inputs) edges state result }
 {

@@ -1,4 +1,4 @@
-use Rattle.verdict.proofs.Scanning.{Known}
+use Rattle.verdict.proofs.Settling.{Known}
 use Rattle.verdict.proofs.scan.settle.Given as goal
 
 -- the loop has come past s(1) to s(n), and the current state is s(n + 1)
