@@ -1,4 +1,5 @@
 pub mod Judging
 pub mod Looping
 pub mod Scanning
+pub mod Settling
 pub mod Worked

@@ -21,7 +21,9 @@ pub record Row : Type 0 where
 
 -- the scan of the row's frame, from the state s, leads to the state t
 pub record ComesTo (c : Chart) (s : State) (previous : Option ℕ) (row : Row) (t : State) : Type 0 where
-  pub scanned : Scanned (by_chart c row.frame) (edges_between previous row.frame) s (record { verdict = row.verdict; state = t })
+  pub scanned :
+      Scanned (by_chart c row.frame) (edges_between previous row.frame) s
+      (record { verdict = row.verdict; state = t })
   pub active : t.active ≡ row.active
   pub outputs : output_frame c t ≡ row.outputs
 
@@ -46,7 +48,10 @@ one_step_chart = lined (codes "step 0 initial" ∷ codes "trans 0 from 0 to 0 wh
 -- two steps that follow each other whatever the inputs
 abbrev pub in_turn_chart : List ℕ
 in_turn_chart =
-    lined (codes "step 0 initial" ∷ codes "step 1" ∷ codes "trans 0 from 0 to 1 when 1" ∷ codes "trans 1 from 1 to 0 when 1" ∷ [])
+    lined (
+    codes "step 0 initial" ∷ codes "step 1" ∷ codes "trans 0 from 0 to 1 when 1" ∷
+    codes "trans 1 from 1 to 0 when 1" ∷ []
+    )
 
 -- two transitions that a rise clears together, of which the one activates the step that the other deactivates
 abbrev pub both_chart : List ℕ

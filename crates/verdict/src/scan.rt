@@ -11,15 +11,12 @@ use evolution::state::State;
 use frames::edges::Edges;
 use search::earliest;
 
-/// The verdict on a frame, and the state that it leads to. Two equal states with none stable settle it at once.
-pub fn scan(program: &Program, state: State, previous: Option<u64>, inputs: u64) -> Outcome
-    ensures words { Scanned (by_words program.now inputs) (edges_between previous inputs) state result }
-    ensures chart { (c : Chart) → CompiledFrom c program.now →
-        Scanned (by_chart c inputs) (edges_between previous inputs) state result }
+// The scan of a frame with these edges. Two equal states with none stable settle it at once.
+#[tactic(auto, using(crate::proofs::Settling::loop_lemmas))]
+fn settle(program: &Program, state: State, edges: Edges, inputs: u64) -> Outcome
+    ensures { Scanned (by_words program.now inputs) edges state result }
 {
-    let mut current = state
-        .evolve(program, inputs, Edges::between(previous, inputs))
-        .unwrap_or(state);
+    let mut current = state.evolve(program, inputs, edges).unwrap_or(state);
     let mut states = [state; 64];
     for n in 0..64 {
         let Some(next) = current.evolve(program, inputs, Edges::none()) else {
@@ -41,4 +38,13 @@ pub fn scan(program: &Program, state: State, previous: Option<u64>, inputs: u64)
         verdict: Verdict::Overlong,
         state,
     }
+}
+
+/// The verdict on a frame, and the state that it leads to.
+pub fn scan(program: &Program, state: State, previous: Option<u64>, inputs: u64) -> Outcome
+    ensures words { Scanned (by_words program.now inputs) (edges_between previous inputs) state result }
+    ensures chart { (c : Chart) → CompiledFrom c program.now →
+        Scanned (by_chart c inputs) (edges_between previous inputs) state result }
+{
+    settle(program, state, Edges::between(previous, inputs), inputs)
 }
