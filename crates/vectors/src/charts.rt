@@ -17,7 +17,7 @@ pub(crate) struct Row {
     pub active: u64,
 }
 
-pub(crate) const fn row(inputs: u64, verdict: Verdict, outputs: u64, active: u64) -> Row {
+pub(crate) const fn expect(inputs: u64, verdict: Verdict, outputs: u64, active: u64) -> Row {
     Row {
         inputs,
         verdict,
@@ -31,20 +31,20 @@ pub(crate) const fn row(inputs: u64, verdict: Verdict, outputs: u64, active: u64
 pub(crate) fn judge_scans(rt: &impl Abort, program: &Program, rows: &[Row]) -> Result<(), Fail> {
     let mut state = State::start(program);
     let mut previous = None;
-    for expected in rows {
-        let inputs = expected.inputs;
+    for row in rows {
+        let inputs = row.inputs;
         let outcome = scan(program, state, previous, inputs);
         if matches!(outcome.verdict, Verdict::Stable(_)) {
             previous = Some(inputs);
         }
         state = outcome.state;
-        let found = row(
+        let found = expect(
             inputs,
             outcome.verdict,
             state.outputs(program, inputs),
             state.active,
         );
-        assert_eq!(rt; found, *expected);
+        assert_eq!(rt; found, *row);
     }
     Ok(())
 }
@@ -62,7 +62,8 @@ pub(crate) fn program_of(rt: &impl Abort, heap: Global, text: &[u8]) -> Result<P
 // A number below 100, in two digits.
 fn push_number(text: &mut Vec<u8>, number: u8) -> Result<(), AllocError> {
     text.push(b'0' + number / 10 % 10)?;
-    text.push(b'0' + number % 10)
+    text.push(b'0' + number % 10)?;
+    Ok(())
 }
 
 // A transition with the number of its preceding step, up to its condition.

@@ -13,36 +13,38 @@ use words::instruction::{Instruction, Operand, Part, Target};
 
 #[test]
 fn the_two_step_chart_step_by_step(rt: HostRuntime) -> Result<(), Fail> {
-    let text = b"step 0 initial\nstep 1\ntrans 0 from 0 to 1 when /I0\ntrans 1 from 1 to 0 when I1\nhold 1 Q0\nenter 1 set Q1";
+    let text =
+        b"step 0 initial\nstep 1\ntrans 0 from 0 to 1 when /I0\ntrans 1 from 1 to 0 when I1\nhold 1 Q0\nenter 1 set Q1";
     let program = program_of(&rt, rt.alloc(), text)?;
     judge_scans(
         &rt,
         &program,
         &[
-            row(0, Stable(1), 0, 1),
-            row(1, Stable(1), 3, 2),
-            row(1, Stable(1), 3, 2),
-            row(2, Stable(1), 2, 1),
-            row(3, Stable(2), 2, 1),
-            row(2, Stable(1), 2, 1),
-            row(1, Stable(1), 3, 2),
+            expect(0, Stable(1), 0, 1),
+            expect(1, Stable(1), 3, 2),
+            expect(1, Stable(1), 3, 2),
+            expect(2, Stable(1), 2, 1),
+            expect(3, Stable(2), 2, 1),
+            expect(2, Stable(1), 2, 1),
+            expect(1, Stable(1), 3, 2),
         ],
     )
 }
 
 #[test]
 fn no_edge_without_a_previous_frame(rt: HostRuntime) -> Result<(), Fail> {
-    let text = b"step 0 initial\nstep 1\ntrans 0 from 0 to 1 when /I0+\\I1\ntrans 1 from 1 to 0 when \\I0";
+    let text =
+        b"step 0 initial\nstep 1\ntrans 0 from 0 to 1 when /I0+\\I1\ntrans 1 from 1 to 0 when \\I0";
     let program = program_of(&rt, rt.alloc(), text)?;
     judge_scans(
         &rt,
         &program,
         &[
-            row(1, Stable(1), 0, 1),
-            row(2, Stable(1), 0, 1),
-            row(0, Stable(1), 0, 2),
-            row(1, Stable(1), 0, 2),
-            row(0, Stable(1), 0, 1),
+            expect(1, Stable(1), 0, 1),
+            expect(2, Stable(1), 0, 1),
+            expect(0, Stable(1), 0, 2),
+            expect(1, Stable(1), 0, 2),
+            expect(0, Stable(1), 0, 1),
         ],
     )
 }
@@ -54,13 +56,13 @@ fn circling_from_the_first_states_on(rt: HostRuntime) -> Result<(), Fail> {
         rt.alloc(),
         b"step 0 initial\ntrans 0 from 0 to 0 when 1",
     )?;
-    judge_scans(&rt, &alone, &[row(0, Circling(1, 2), 0, 1)])?;
+    judge_scans(&rt, &alone, &[expect(0, Circling(1, 2), 0, 1)])?;
     let turns = program_of(
         &rt,
         rt.alloc(),
         b"step 0 initial\nstep 1\ntrans 0 from 0 to 1 when 1\ntrans 1 from 1 to 0 when 1",
     )?;
-    judge_scans(&rt, &turns, &[row(0, Circling(1, 3), 0, 1)])?;
+    judge_scans(&rt, &turns, &[expect(0, Circling(1, 3), 0, 1)])?;
     let later = program_of(
         &rt,
         rt.alloc(),
@@ -70,31 +72,34 @@ fn circling_from_the_first_states_on(rt: HostRuntime) -> Result<(), Fail> {
         &rt,
         &later,
         &[
-            row(0, Stable(1), 0, 1),
-            row(1, Circling(1, 3), 0, 1),
-            row(0, Stable(1), 0, 1),
+            expect(0, Stable(1), 0, 1),
+            expect(1, Circling(1, 3), 0, 1),
+            expect(0, Stable(1), 0, 1),
         ],
     )
 }
 
 #[test]
 fn stored_outputs_count_in_a_repetition(rt: HostRuntime) -> Result<(), Fail> {
-    let text = b"step 0 initial\nstep 1\nstep 2\ntrans 0 from 0 to 1 when 1\ntrans 1 from 1 to 2 when 1\ntrans 2 from 2 to 1 when 1\nenter 2 set Q0";
+    let text =
+        b"step 0 initial\nstep 1\nstep 2\ntrans 0 from 0 to 1 when 1\ntrans 1 from 1 to 2 when 1\ntrans 2 from 2 to 1 when 1\nenter 2 set Q0";
     let program = program_of(&rt, rt.alloc(), text)?;
-    judge_scans(&rt, &program, &[row(0, Circling(2, 4), 0, 1)])?;
-    let text = b"step 0 initial\nstep 1\ntrans 0 from 0 to 1 when !Q0\ntrans 1 from 1 to 0 when 1\nenter 1 set Q0";
+    judge_scans(&rt, &program, &[expect(0, Circling(2, 4), 0, 1)])?;
+    let text =
+        b"step 0 initial\nstep 1\ntrans 0 from 0 to 1 when !Q0\ntrans 1 from 1 to 0 when 1\nenter 1 set Q0";
     let program = program_of(&rt, rt.alloc(), text)?;
-    judge_scans(&rt, &program, &[row(0, Stable(2), 1, 1)])
+    judge_scans(&rt, &program, &[expect(0, Stable(2), 1, 1)])
 }
 
 #[test]
 fn two_steps_move_on_one_rise(rt: HostRuntime) -> Result<(), Fail> {
-    let text = b"step 0 initial\nstep 1 initial\nstep 2\ntrans 0 from 0 to 1 when /I0\ntrans 1 from 1 to 2 when /I0\nenter 1 set Q1\nenter 2 set Q2";
+    let text =
+        b"step 0 initial\nstep 1 initial\nstep 2\ntrans 0 from 0 to 1 when /I0\ntrans 1 from 1 to 2 when /I0\nenter 1 set Q1\nenter 2 set Q2";
     let program = program_of(&rt, rt.alloc(), text)?;
     judge_scans(
         &rt,
         &program,
-        &[row(0, Stable(1), 2, 3), row(1, Stable(1), 6, 6)],
+        &[expect(0, Stable(1), 2, 3), expect(1, Stable(1), 6, 6)],
     )
 }
 
@@ -107,14 +112,14 @@ fn a_chain_of_sixty_four_steps(rt: HostRuntime) -> Result<(), Fail> {
     judge_scans(
         &rt,
         &program,
-        &[row(0, Stable(1), 0, 1), row(1, Stable(64), 0, last)],
+        &[expect(0, Stable(1), 0, 1), expect(1, Stable(64), 0, last)],
     )?;
     let text = ring(heap)?;
     let program = program_of(&rt, heap, &text)?;
     judge_scans(
         &rt,
         &program,
-        &[row(0, Stable(1), 0, 1), row(1, Overlong, 0, 1)],
+        &[expect(0, Stable(1), 0, 1), expect(1, Overlong, 0, 1)],
     )
 }
 
@@ -124,7 +129,10 @@ fn a_program_with_no_words(rt: HostRuntime) -> Result<(), Fail> {
     judge_scans(
         &rt,
         &program,
-        &[row(0, Stable(1), 0, 0), row(u64::MAX, Stable(1), 0, 0)],
+        &[
+            expect(0, Stable(1), 0, 0),
+            expect(u64::MAX, Stable(1), 0, 0),
+        ],
     )
 }
 
@@ -159,16 +167,19 @@ fn files_that_no_compiler_wrote(rt: HostRuntime) -> Result<(), Fail> {
     judge_scans(
         &rt,
         &never_empty,
-        &[row(0, Circling(1, 2), 0, 1), row(1, Circling(1, 2), 0, 1)],
+        &[
+            expect(0, Circling(1, 2), 0, 1),
+            expect(1, Circling(1, 2), 0, 1),
+        ],
     )?;
     let discarded = load(&rt, heap, &[LD_ON, S_Q0], &[], &[])?;
     judge_scans(
         &rt,
         &discarded,
-        &[row(0, Stable(1), 0, 1), row(1, Stable(1), 0, 1)],
+        &[expect(0, Stable(1), 0, 1), expect(1, Stable(1), 0, 1)],
     )?;
     let once = load(&rt, heap, &[LDN_Q0, ST_T0, S_Q0], &[], &[])?;
-    judge_scans(&rt, &once, &[row(0, Stable(1), 1, 1)])?;
+    judge_scans(&rt, &once, &[expect(0, Stable(1), 1, 1)])?;
     let back_and_forth = load(
         &rt,
         heap,
@@ -176,74 +187,125 @@ fn files_that_no_compiler_wrote(rt: HostRuntime) -> Result<(), Fail> {
         &[LD_Q0, AND_OPEN, CLOSE, NOT, S_Q0, NOT, R_Q0],
         &[LD_X0, S_H0],
     )?;
-    judge_scans(&rt, &back_and_forth, &[row(0, Circling(1, 3), 1, 1)])?;
+    judge_scans(&rt, &back_and_forth, &[expect(0, Circling(1, 3), 1, 1)])?;
     let step_at_the_start = load(&rt, heap, &[], &[LD_ON, S_X1], &[])?;
-    judge_scans(&rt, &step_at_the_start, &[row(0, Stable(1), 0, 3)])
+    judge_scans(&rt, &step_at_the_start, &[expect(0, Stable(1), 0, 3)])
 }
 
-// The stored outputs after one evolution by these instructions, which store their result in Q0, under the inputs.
-fn result_of(
+const A: Operand = Operand::Input(0);
+
+const B: Operand = Operand::Input(1);
+
+const LD_A: Instruction = Instruction::Load(A);
+
+const LD_B: Instruction = Instruction::Load(B);
+
+// The instructions are a clear part that leaves its result in Q0. Compares it where neither input is on, where input 0 is, where
+// input 1 is, and where both are.
+fn judge_results(
     rt: &impl Abort,
     heap: Global,
     instructions: &[Instruction],
-    inputs: u64,
-) -> Result<bool, Fail> {
+    expected: [bool; 4],
+) -> Result<(), Fail> {
     let mut clear = Vec::new(heap);
     for &instruction in instructions {
-        if let Some(word) = encode(Part::Clear, instruction) {
-            clear.push(word)?;
-        }
+        let word = encode(Part::Clear, instruction).unwrap_or(0);
+        clear.push(word)?;
     }
     clear.extend_from_slice(&[S_Q0, LD_ON, ST_T0])?;
     let program = load(rt, heap, &clear, &[], &[])?;
-    let state = State::start(&program);
-    let after = state.evolve(&program, inputs, Edges::none());
-    Ok(after.is_some_and(|s| s.stored == 1))
+    let start = State::start(&program);
+    for (inputs, due) in expected.into_iter().enumerate() {
+        let after = start.evolve(&program, inputs as u64, Edges::none());
+        assert_eq!(rt; after.is_some_and(|s| s.stored % 2 == 1), due);
+    }
+    Ok(())
 }
 
 #[test]
-fn each_operator(rt: HostRuntime) -> Result<(), Fail> {
+fn operators_that_load_and_join(rt: HostRuntime) -> Result<(), Fail> {
     let heap = rt.alloc();
-    let a = Instruction::Load(Operand::Input(0));
-    let b = Operand::Input(1);
-    let c = Instruction::Load(b);
-    for inputs in 0..4 {
-        let (x, y) = (inputs % 2 == 1, inputs / 2 == 1);
-        let cases: [(&[Instruction], bool); 12] = [
-            (&[c], y),
-            (&[Instruction::LoadNot(b)], !y),
-            (&[a, Instruction::And(b)], x && y),
-            (&[a, Instruction::AndNot(b)], x && !y),
-            (&[a, Instruction::Or(b)], x || y),
-            (&[a, Instruction::OrNot(b)], x || !y),
-            (&[a, Instruction::Not], !x),
-            (&[a, Instruction::AndOpen, c, Instruction::Close], x && y),
-            (&[a, Instruction::OrOpen, c, Instruction::Close], x || y),
-            (
-                &[
-                    a,
-                    Instruction::OrOpen,
-                    c,
-                    Instruction::AndOpen,
-                    a,
-                    Instruction::Not,
-                    Instruction::Close,
-                    Instruction::Close,
-                ],
-                x || y,
-            ),
-            (
-                &[a, Instruction::Set(Target::Output(1)), c, Instruction::And(Operand::Output(1))],
-                x && y,
-            ),
-            (
-                &[a, Instruction::Store(5), c, Instruction::AndNot(Operand::Cleared(5))],
-                !x && y,
-            ),
-        ];
-        for (instructions, expected) in cases {
-            assert_eq!(rt; result_of(&rt, heap, instructions, inputs)?, expected);
-        }
-    }
-    Ok(())
+    judge_results(&rt, heap, &[LD_B], [false, false, true, true])?;
+    judge_results(
+        &rt,
+        heap,
+        &[Instruction::LoadNot(B)],
+        [true, true, false, false],
+    )?;
+    judge_results(
+        &rt,
+        heap,
+        &[LD_A, Instruction::And(B)],
+        [false, false, false, true],
+    )?;
+    judge_results(
+        &rt,
+        heap,
+        &[LD_A, Instruction::AndNot(B)],
+        [false, true, false, false],
+    )?;
+    judge_results(
+        &rt,
+        heap,
+        &[LD_A, Instruction::Or(B)],
+        [false, true, true, true],
+    )?;
+    judge_results(
+        &rt,
+        heap,
+        &[LD_A, Instruction::OrNot(B)],
+        [true, true, false, true],
+    )
+}
+
+#[test]
+fn brackets_and_negation(rt: HostRuntime) -> Result<(), Fail> {
+    let heap = rt.alloc();
+    let not = Instruction::Not;
+    let and = Instruction::AndOpen;
+    let or = Instruction::OrOpen;
+    let close = Instruction::Close;
+    judge_results(&rt, heap, &[LD_A, not], [true, false, true, false])?;
+    judge_results(
+        &rt,
+        heap,
+        &[LD_A, and, LD_B, close],
+        [false, false, false, true],
+    )?;
+    judge_results(
+        &rt,
+        heap,
+        &[LD_A, or, LD_B, close],
+        [false, true, true, true],
+    )?;
+    judge_results(
+        &rt,
+        heap,
+        &[LD_A, and, LD_B, or, LD_A, not, close, not, close],
+        [false, true, false, false],
+    )
+}
+
+#[test]
+fn operators_that_write(rt: HostRuntime) -> Result<(), Fail> {
+    let heap = rt.alloc();
+    let set = Instruction::Set(Target::Output(1));
+    let reset = Instruction::Reset(Target::Output(1));
+    let stored = Instruction::Load(Operand::Output(1));
+    let store = Instruction::Store(5);
+    let cleared = Instruction::Load(Operand::Cleared(5));
+    judge_results(&rt, heap, &[LD_A, set, stored], [false, true, false, true])?;
+    judge_results(
+        &rt,
+        heap,
+        &[LD_A, set, LD_B, reset, stored],
+        [false, true, false, false],
+    )?;
+    judge_results(
+        &rt,
+        heap,
+        &[LD_A, store, LD_B, store, cleared],
+        [false, false, true, true],
+    )
 }
