@@ -4,10 +4,9 @@ use Rattle.words.specs.Emitted.{Kept, pushed}
 use Rattle.conditions.specs.Tree.{Cond}
 use Rattle.lines.specs.declared.shape.Number.{Number}
 use Rattle.lines.specs.declared.shape.Action.{Action}
-use Rattle.lines.specs.declared.shape.Action.TheVariants as action
 use Rattle.lines.specs.Grammar.{Numbers, items, empty, step, trans, hold, enter}
-use Rattle.translation.specs.Translation.{switches, newly, held}
-use Rattle.translation.specs.Drafts.{Sketch, started, noted}
+use Rattle.translation.specs.Translation.{newly, held}
+use Rattle.translation.specs.Drafts.{Sketch, started, with_switches, noted}
 use Rattle.conditions.proofs.Pushing.{pushed_none}
 
 -- drafts that hold the same
@@ -24,8 +23,8 @@ noted_empty d = same_sketch refl refl (none _) (none _) (none _) (none _)
 pub noted_step : (d : Sketch) (n : Number) (b : Bool) (x : ℕ) → x ≡ started d.initial (step n b) → ◌≡◌ {A = Sketch} (record { initial = x; clear = d.clear; resets = d.resets; sets = d.sets; enter = d.enter; hold = d.hold }) (noted d (step n b))
 noted_step d n b x e = same_sketch e refl (none _) (none _) (none _) (none _)
 
-pub noted_trans : (d : Sketch) (n : Number) (fs ts : Numbers) (c : Cond) (us : List Number) (r s : Kept) → r ≡ pushed d.resets (switches action.Reset n.value (items fs)) → s ≡ pushed d.sets (switches action.Set n.value (items ts)) → ◌≡◌ {A = Sketch} (record { initial = d.initial; clear = d.clear; resets = r; sets = s; enter = d.enter; hold = d.hold }) (noted d (trans n fs ts c us))
-noted_trans d n fs ts c us r s e f = same_sketch refl refl e f (none _) (none _)
+pub noted_trans : (d : Sketch) (n : Number) (fs ts : Numbers) (c : Cond) (us : List Number) → with_switches d n.value (items fs) (items ts) ≡ noted d (trans n fs ts c us)
+noted_trans d n fs ts c us = same_sketch refl refl refl refl (none _) (none _)
 
 pub noted_hold : (d : Sketch) (n q : Number) (k : Kept) → k ≡ pushed d.hold (held n.value q.value) → ◌≡◌ {A = Sketch} (record { initial = d.initial; clear = d.clear; resets = d.resets; sets = d.sets; enter = d.enter; hold = k }) (noted d (hold n q))
 noted_hold d n q k e = same_sketch refl refl (none _) (none _) (none _) e

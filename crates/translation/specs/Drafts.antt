@@ -3,10 +3,12 @@ use Rattle.std.specs.Prelude.{◌≡◌, ℕ, true, false, List, [], ◌∷◌, 
 use Rattle.faults.specs.declared.TextFault.{TextFault}
 use Rattle.frames.specs.Bits.{on}
 use Rattle.words.specs.Emitted.{Kept, kept_in, nothing, pushed, joined}
+use Rattle.lines.specs.declared.shape.Number.{Number}
+use Rattle.lines.specs.declared.shape.Action.TheVariants as action
 use Rattle.lines.specs.Grammar.{Tree, empty, step, trans, hold, enter}
 use Rattle.lines.specs.Guards.{guard_words}
 use Rattle.translation.specs.declared.draft.Draft.{Draft}
-use Rattle.translation.specs.Translation.{each, initial_frame, reset_words, set_words, enter_words, hold_words}
+use Rattle.translation.specs.Translation.{each, initial_frame, switches, reset_words, set_words, enter_words, hold_words}
 use Rattle.translation.specs.Translation.{clear_part, enter_part, hold_part}
 
 -- the initial steps, and what is kept of each list
@@ -59,6 +61,18 @@ started x (enter n a q) = x
 abbrev pub started_all : ℕ → List Tree → ℕ
 started_all x [] = x
 started_all x (l ∷ ls) = started_all (started x l) ls
+
+-- with what a cleared transition does to its steps
+abbrev pub with_switches : Sketch → ℕ → List Number → List Number → Sketch
+with_switches d t fs ts =
+    record {
+      initial = d.initial;
+      clear = d.clear;
+      resets = pushed d.resets (switches action.Reset t fs);
+      sets = pushed d.sets (switches action.Set t ts);
+      enter = d.enter;
+      hold = d.hold;
+    }
 
 -- with a line more, but for the words that test its transition
 abbrev pub noted : Sketch → Tree → Sketch

@@ -1,10 +1,11 @@
 //! A draft of the lines of a text.
 ghost use Rattle.std.specs.Prelude.{◌≡◌, List, IfOk, Ok};
 ghost use Rattle.lines.specs.Grammar.{Tree, step as stepLine};
-ghost use Rattle.lines.specs.Parts.{Shows};
+ghost use Rattle.lines.specs.Parts.{Shows, numbers_in};
 ghost use Rattle.lines.specs.Next.{lines_left};
 ghost use Rattle.translation.specs.Soundness.{SoundParts};
-ghost use Rattle.translation.specs.Drafts.{sketch_of, blank, started, noted, closed, Reads, Translated};
+ghost use Rattle.translation.specs.Drafts.{sketch_of, blank, started, with_switches, noted, closed, Reads};
+ghost use Rattle.translation.specs.Drafts.{Translated};
 
 use crate::draft::Draft;
 use crate::emit::{emit_all, emit_switches, entering, holding};
@@ -14,6 +15,7 @@ use frames::bits::with_on;
 use lines::line::next_line;
 use lines::shape::{Action, Line, Number};
 use std::alloc::{AllocError, Global};
+use text::token::Token;
 use words::list::WordList;
 
 // The frame of the initial steps, with this step if it is initial.
@@ -60,6 +62,15 @@ impl Draft {
         self.hold.clear();
     }
 
+    // Takes what a cleared transition does to its steps.
+    fn note_switches(&mut self, transition: u8, from: &[Token], to: &[Token])
+        ensures { sketch_of self.new
+            ≡ with_switches (sketch_of self.old) transition (numbers_in from.now) (numbers_in to.now) }
+    {
+        emit_switches(Action::Reset, transition, from, &mut self.resets);
+        emit_switches(Action::Set, transition, to, &mut self.sets);
+    }
+
     // Takes a line, but for the words that test its transition.
     fn note(&mut self, line: Line<'_>)
         ensures { (tree : Tree) → Shows line.entry tree → sketch_of self.new ≡ noted (sketch_of self.old) tree }
@@ -70,8 +81,7 @@ impl Draft {
                 self.initial = starting(self.initial, step, initial);
             }
             Line::Trans(t) => {
-                emit_switches(Action::Reset, t.number.value, t.from, &mut self.resets);
-                emit_switches(Action::Set, t.number.value, t.to, &mut self.sets);
+                self.note_switches(t.number.value, t.from, t.to);
             }
             Line::Hold { step, output } => {
                 emit_all(&holding(step.value, output.value), &mut self.hold);

@@ -1,13 +1,11 @@
-use Rattle.std.proofs.Common.{◌≡◌, sym, ap, ◌∙◌, subst}
+use Rattle.std.proofs.Common.{◌≡◌, sym, ap, ap₂, ◌∙◌, subst}
 use Rattle.words.specs.Emitted.{pushed}
-use Rattle.lines.specs.declared.shape.Action.TheVariants as action
 use Rattle.lines.specs.declared.shape.Line.{Line}
 use Rattle.lines.specs.declared.shape.Line.TheVariants as line
 use Rattle.lines.specs.Grammar.{Tree}
 use Rattle.lines.specs.Scan.{refs}
 use Rattle.lines.specs.Parts.{Shows}
-use Rattle.translation.specs.Translation.{switches}
-use Rattle.translation.specs.Drafts.{sketch_of, noted}
+use Rattle.translation.specs.Drafts.{sketch_of, with_switches, noted}
 use Rattle.translation.proofs.Noting.{noted_empty, noted_step, noted_trans, noted_hold, noted_enter}
 use Rattle.translation.proofs.draft.Draft.note.Goals as goal
 
@@ -32,9 +30,9 @@ returns-in-Trans c = λ l s.
     let t = c.in-Trans.t in
     let n = t.number in
     let h = shows l c.args.line (line.Trans t) c.in-Trans.is s in
-    noted_trans d n h.0 h.1 h.2 (refs t.condition.now) _ _
-    (c.emit_switches.ensures ∙ ap (λ ns. pushed d.resets (switches action.Reset n.value ns)) h.4)
-    (c.emit_switches-in-Trans.ensures ∙ ap (λ ns. pushed d.sets (switches action.Set n.value ns)) h.5)
+    c.note_switches.ensures
+    ∙ ap₂ (λ fs ts. with_switches d n.value fs ts) h.4 h.5
+    ∙ noted_trans d n h.0 h.1 h.2 (refs t.condition.now)
     ∙ ap (noted d) (sym h.3)
 
 pub returns-in-Hold : goal.returns-in-Hold
