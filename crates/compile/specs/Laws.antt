@@ -58,7 +58,13 @@ pub record LoadsAs (text : List ℕ) (n : ℕ) (buffer : List ℕ) : Type 0 wher
   pub chart : chart_of_text text ≡ Ok lines
   pub loads : code_of (take n buffer) ≡ Ok (program_of lines)
 
+-- the text passes all checks, and the program has the initial steps and the words of its chart
+pub record ProgramOf (text : List ℕ) (p : Program) : Type 0 where
+  pub lines : List Tree
+  pub passes : chart_of_text text ≡ Ok lines
+  pub code : code_in p ≡ program_of lines
+
 -- a program that was loaded with the chart, or is as it was
 abbrev pub Built : List ℕ → Program → Program → Result ℕ CodeFault → Type 0
-Built text old new (Ok n) = (ls : List Tree) → chart_of_text text ≡ Ok ls → code_in new ≡ program_of ls
+Built text old new (Ok n) = ProgramOf text new
 Built text old new (Err f) = new ≡ old
