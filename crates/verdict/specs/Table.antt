@@ -8,11 +8,11 @@ use Rattle.evolution.specs.declared.state.State.{State}
 use Rattle.evolution.specs.Chart.{Chart, chart_of_lines}
 use Rattle.evolution.specs.Rules.{start, output_frame}
 use Rattle.verdict.specs.declared.outcome.Verdict.{Verdict}
-use Rattle.verdict.specs.declared.outcome.Verdict.TheVariants.{Stable, Circling}
+use Rattle.verdict.specs.declared.outcome.Verdict.TheVariants.{Stable, Circling, Overlong}
 use Rattle.verdict.specs.Rules.{by_chart}
 use Rattle.verdict.specs.Scans.{Scanned}
 
--- a scan: its frame, the verdict, and the active steps and the outputs when it is over
+-- a scan: its frame, the verdict, and of the state that it leads to the active steps and the output frame
 pub record Row : Type 0 where
   pub frame : ℕ
   pub verdict : Verdict
@@ -27,10 +27,17 @@ pub record ComesTo (c : Chart) (s : State) (previous : Option ℕ) (row : Row) (
   pub active : t.active ≡ row.active
   pub outputs : output_frame c t ≡ row.outputs
 
+-- the previous frame of the next scan: only a stable one leaves its own
+abbrev pub previous_after : Verdict → Option ℕ → ℕ → Option ℕ
+previous_after (Stable m) previous frame = Some frame
+previous_after (Circling j k) previous frame = previous
+previous_after Overlong previous frame = previous
+
 -- the rows' scans, one after the other, from the state s
 abbrev pub Comes : Chart → State → Option ℕ → List Row → Type 0
 Comes c s previous [] = Unit {0}
-Comes c s previous (row ∷ rows) = (t : State) × (ComesTo c s previous row t × Comes c t (Some row.frame) rows)
+Comes c s previous (row ∷ rows) =
+    (t : State) × (ComesTo c s previous row t × Comes c t (previous_after row.verdict previous row.frame) rows)
 
 -- the same for the chart of a text, from its start state with no previous frame
 pub record Runs (text : List ℕ) (rows : List Row) : Type 0 where
