@@ -200,27 +200,73 @@ const LD_A: Instruction = Instruction::Load(A);
 
 const LD_B: Instruction = Instruction::Load(B);
 
-// The instructions are a clear part that leaves its result in Q0. Compares it where neither input is on, where input 0 is, where
-// input 1 is, and where both are.
+// A program whose clear part runs the instructions and leaves their result in Q0.
+fn storing(rt: &impl Abort, heap: Global, instructions: &[Instruction]) -> Result<Program, Fail> {
+    let mut clear = Vec::new(heap);
+    for &instruction in instructions {
+        let word = encode(Part::Clear, instruction);
+        assert!(rt; word.is_some());
+        clear.push(word.unwrap_or(0))?;
+    }
+    clear.extend_from_slice(&[S_Q0, LD_ON, ST_T0])?;
+    load(rt, heap, &clear, &[], &[])
+}
+
+// The result of the program's clear part, from its start state.
+fn result_of(program: &Program, inputs: u64, edges: Edges) -> bool {
+    let after = State::start(program).evolve(program, inputs, edges);
+    after.is_some_and(|s| s.stored % 2 == 1)
+}
+
+// Compares the result of the instructions where neither input is on, where input 0 is, where input 1 is, and where both are.
 fn judge_results(
     rt: &impl Abort,
     heap: Global,
     instructions: &[Instruction],
     expected: [bool; 4],
 ) -> Result<(), Fail> {
-    let mut clear = Vec::new(heap);
-    for &instruction in instructions {
-        let word = encode(Part::Clear, instruction).unwrap_or(0);
-        clear.push(word)?;
-    }
-    clear.extend_from_slice(&[S_Q0, LD_ON, ST_T0])?;
-    let program = load(rt, heap, &clear, &[], &[])?;
-    let start = State::start(&program);
+    let program = storing(rt, heap, instructions)?;
     for (inputs, due) in expected.into_iter().enumerate() {
-        let after = start.evolve(&program, inputs as u64, Edges::none());
-        assert_eq!(rt; after.is_some_and(|s| s.stored % 2 == 1), due);
+        assert_eq!(rt; result_of(&program, inputs as u64, Edges::none()), due);
     }
     Ok(())
+}
+
+// Compares an operand where step 0 is active, input 2 on and risen, and input 3 fallen.
+fn judge_operand(rt: &impl Abort, heap: Global, operand: Operand, due: bool) -> Result<(), Fail> {
+    let program = storing(rt, heap, &[Instruction::Load(operand)])?;
+    let edges = Edges { rises: 4, falls: 8 };
+    assert_eq!(rt; result_of(&program, 4, edges), due, "{}", operand);
+    Ok(())
+}
+
+#[test]
+fn operands_of_each_area(rt: HostRuntime) -> Result<(), Fail> {
+    let heap = rt.alloc();
+    judge_operand(&rt, heap, Operand::Input(2), true)?;
+    judge_operand(&rt, heap, Operand::Input(3), false)?;
+    judge_operand(&rt, heap, Operand::Step(0), true)?;
+    judge_operand(&rt, heap, Operand::Step(2), false)?;
+    judge_operand(&rt, heap, Operand::Output(0), false)?;
+    judge_operand(&rt, heap, Operand::Rise(2), true)?;
+    judge_operand(&rt, heap, Operand::Rise(3), false)?;
+    judge_operand(&rt, heap, Operand::Fall(3), true)?;
+    judge_operand(&rt, heap, Operand::Fall(2), false)?;
+    judge_operand(&rt, heap, Operand::Always, true)?;
+    judge_operand(&rt, heap, Operand::Cleared(0), false)?;
+    judge_operand(&rt, heap, Operand::Before(0), true)?;
+    judge_operand(&rt, heap, Operand::Before(2), false)
+}
+
+#[test]
+fn seventeen_open_brackets(rt: HostRuntime) -> Result<(), Fail> {
+    let mut deep = [Instruction::Close; 36];
+    deep[0] = LD_A;
+    for opening in 1..18 {
+        deep[opening] = Instruction::AndOpen;
+    }
+    deep[18] = LD_B;
+    judge_results(&rt, rt.alloc(), &deep, [false, false, false, true])
 }
 
 #[test]
