@@ -106,9 +106,13 @@ at_rest c inputs edges s = not (list_any (λ t. clearable t (record { state = s;
 abbrev pub stable : Chart → ℕ → State → Bool
 stable c inputs s = at_rest c inputs no_edges s
 
+-- the frame of the initial steps
+unfoldable pub initial_steps : Chart → ℕ
+initial_steps c = pack 64 (λ n. member n c.initial)
+
 -- rule 1: the initial steps are active and all else is off; then their enter lines are carried out
 abbrev pub start : Chart → State
-start c = record { active = c.initial; stored = entered (λ n. bit n c.initial) c.entries 0 }
+start c = record { active = initial_steps c; stored = entered (λ n. bit n (initial_steps c)) c.entries 0 }
 
 -- the stored outputs, and every output that an active step holds
 abbrev pub output_on : Chart → State → ℕ → Bool
