@@ -22,6 +22,9 @@ pub record Situation : Type 0 where
   pub inputs : ℕ
   pub edges : Edges
 
+abbrev pub situation : ℕ → Edges → State → Situation
+situation inputs edges s = record { state = s; inputs = inputs; edges = edges }
+
 abbrev pub operand_holds : Letter → ℕ → Situation → Bool
 operand_holds I n s = bit n s.inputs
 operand_holds Q n s = bit n s.state.stored
@@ -95,12 +98,12 @@ newly_active before after n = bit n after && not (bit n before)
 
 unfoldable pub evolved : Chart → ℕ → Edges → State → State
 evolved c inputs edges s =
-    let after = steps_after c.transitions (record { state = s; inputs = inputs; edges = edges }) in
+    let after = steps_after c.transitions (situation inputs edges s) in
     record { active = after; stored = entered (newly_active s.active after) c.entries s.stored }
 
 -- no transition is clearable
 unfoldable pub at_rest : Chart → ℕ → Edges → State → Bool
-at_rest c inputs edges s = not (list_any (λ t. clearable t (record { state = s; inputs = inputs; edges = edges })) c.transitions)
+at_rest c inputs edges s = not (list_any (λ t. clearable t (situation inputs edges s)) c.transitions)
 
 -- a state is stable when no transition is clearable in it with every edge false
 abbrev pub stable : Chart → ℕ → State → Bool

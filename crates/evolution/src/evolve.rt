@@ -1,6 +1,6 @@
 //! How a state goes on, by the words of a program.
-ghost use Rattle.std.specs.Prelude.{◌≡◌};
-ghost use Rattle.evolution.specs.Agreement.{CompiledFrom, is_none};
+ghost use Rattle.std.specs.Prelude.{◌≡◌, is_none};
+ghost use Rattle.evolution.specs.Agreement.{CompiledFrom};
 ghost use Rattle.evolution.specs.Chart.{Chart};
 ghost use Rattle.evolution.specs.Rules as rules;
 ghost use Rattle.evolution.specs.Rules.{evolved, at_rest};
