@@ -34,7 +34,7 @@ atom_value (Rise n) m = refl
 atom_value (Fall n) m = refl
 atom_value Always m = refl
 
--- a bracket: the present result is put away, the words inside give theirs, and both are joined
+-- a bracket: the result is pushed, the words inside leave theirs, and the two are combined
 pub and_bracket : (b : Bool) (ws : List Instruction) (m : Machine) →
     run ws (machine.step AndOpen m) ≡ load b (machine.step AndOpen m) →
     run (enclosed AndOpen ws) m ≡ load (m.result && b) m
