@@ -1,5 +1,5 @@
 -- A program's words and its chart's rules give the same evolution. Assumes nothing.
-use Rattle.std.proofs.Common.{◌≡◌, ℕ, ◌<◌, ◌^◌, Bool, true, false, ◌==◌, if◌then◌else◌, Some, None, sym, refl, ap, ap₂, ◌∙◌, subst}
+use Rattle.std.proofs.Common.{◌≡◌, ℕ, ◌<◌, ◌^◌, Bool, true, false, ◌==◌, if◌then◌else◌, Some, None, is_none, sym, refl, ap, ap₂, ◌∙◌, subst}
 use Rattle.frames.specs.Edges.{no_edges}
 use Rattle.frames.proofs.BitLaws.{pack_fits}
 use Rattle.frames.specs.declared.edges.Edges.{Edges}
@@ -8,14 +8,14 @@ use Rattle.machine.specs.declared.memory.Memory.{Memory}
 use Rattle.machine.specs.Machine.{begin, run, after}
 use Rattle.evolution.specs.declared.state.State.{State}
 use Rattle.evolution.specs.Chart.{Chart}
-use Rattle.evolution.specs.Rules.{active_after, evolved, at_rest}
+use Rattle.evolution.specs.Rules.{situation, active_after, evolved, at_rest}
 use Rattle.evolution.specs.Rules as rules
 use Rattle.evolution.specs.Words.{showing, prepared, ran, reached, kept}
 use Rattle.evolution.specs.Words as words
-use Rattle.evolution.specs.Agreement.{CompiledFrom, is_none}
+use Rattle.evolution.specs.Agreement.{CompiledFrom}
 use Rattle.evolution.proofs.Numbered.{Numbered}
 use Rattle.evolution.proofs.Lawful.{chart_instructions, numbered}
-use Rattle.evolution.proofs.Evolving.{situation, evolved_memory, parts_evolve, evolved_stays, empty_at_rest}
+use Rattle.evolution.proofs.Evolving.{evolved_memory, parts_evolve, evolved_stays, empty_at_rest}
 
 -- the memory after an evolution
 pub ran_as : (c : Chart) (p : Program) (inputs : ℕ) (edges : Edges) (s : State) → CompiledFrom c p →

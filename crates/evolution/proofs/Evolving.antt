@@ -14,15 +14,12 @@ use Rattle.machine.specs.declared.memory.Memory.{Memory}
 use Rattle.machine.specs.Machine.{Machine, begin, with_cleared, with_state, run}
 use Rattle.evolution.specs.declared.state.State.{State}
 use Rattle.evolution.specs.Chart.{Chart, Transition, Entry, transitions_in, entries_in, chart_of_lines}
-use Rattle.evolution.specs.Rules.{Situation, clearable, member, deactivated, activated, active_after, steps_after, acted, entered, newly_active, evolved, at_rest}
+use Rattle.evolution.specs.Rules.{Situation, situation, clearable, member, deactivated, activated, active_after, steps_after, acted, entered, newly_active, evolved, at_rest}
 use Rattle.evolution.specs.Words.{showing, prepared}
 use Rattle.evolution.proofs.Numbered.{Numbered}
 use Rattle.evolution.proofs.Running.{situation_in, run_append, enter_run}
 use Rattle.evolution.proofs.Switching.{with_active, switched, bit_switched, switched_fits, preceding, succeeding, resets_run, sets_run}
 use Rattle.evolution.proofs.Marking.{marks, marks_frame, marked, any_clearable, clearable_at, cleared_frame, tests_run}
-
-abbrev pub situation : ℕ → Edges → State → Situation
-situation inputs edges s = record { state = s; inputs = inputs; edges = edges }
 
 -- ---- the clear part
 -- the steps after all resets and then all sets

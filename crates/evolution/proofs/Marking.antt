@@ -14,7 +14,7 @@ use Rattle.lines.specs.Guards.{step_test, step_tests, transition_test, guard_wor
 use Rattle.lines.proofs.Testing.{none_yet, empty_yet}
 use Rattle.translation.specs.Translation.{each}
 use Rattle.machine.specs.declared.memory.Memory.{Memory}
-use Rattle.machine.specs.Machine.{Machine, load, with_cleared, stored, run}
+use Rattle.machine.specs.Machine.{Machine, load, with_cleared, written, run}
 use Rattle.machine.specs.Machine as machine
 use Rattle.evolution.specs.Chart.{Transition, transition, transitions_in}
 use Rattle.evolution.specs.Rules.{Situation, holds, clearable}
@@ -44,7 +44,7 @@ steps_run (n ∷ ns) m some = others_run ns (load (bit n.value m.memory.active) 
 
 -- a transition's bit is on in T if it is clearable, and off if not
 abbrev marking : Transition → Memory → Memory
-marking t x = with_cleared (stored (clearable t (situation_in x)) t.number x.cleared) x
+marking t x = with_cleared (written (clearable t (situation_in x)) t.number x.cleared) x
 
 test_run : (n : Number) (fs ts : Numbers) (c : Cond) (m : Machine) →
     (run (transition_test n fs c) m).memory ≡ marking (transition n fs ts c) m.memory
@@ -64,7 +64,7 @@ test_line _ m = refl
 -- T after the tests
 abbrev pub marks : List Transition → Situation → ℕ → ℕ
 marks [] s w = w
-marks (t ∷ ts) s w = marks ts s (stored (clearable t s) t.number w)
+marks (t ∷ ts) s w = marks ts s (written (clearable t s) t.number w)
 
 through_marking : (ts : List Transition) (x : Memory) →
     through marking ts x ≡ with_cleared (marks ts (situation_in x) x.cleared) x
@@ -76,17 +76,17 @@ pub tests_run : (ls : List Tree) (m : Machine) →
 tests_run ls m = lines_run guard_words marking test_line ls m ∙ through_marking (transitions_in ls) m.memory
 
 -- ---- the bits of T
-bit_stored : (r : Bool) (m n w : ℕ) → m < 64 → bit m (stored r n w) ≡ cond (eqb m n) r (bit m w)
-bit_stored true m n w h = bit_on m w n h ∙ grind arith
-bit_stored false m n w h = bit_off m w n h ∙ grind arith
+bit_written : (r : Bool) (m n w : ℕ) → m < 64 → bit m (written r n w) ≡ cond (eqb m n) r (bit m w)
+bit_written true m n w h = bit_on m w n h ∙ grind arith
+bit_written false m n w h = bit_off m w n h ∙ grind arith
 
-stored_fits : (r : Bool) (n w : ℕ) → w < 2 ^ 64 → stored r n w < 2 ^ 64
-stored_fits true n w h = on_fits w n h
-stored_fits false n w h = off_fits w n h
+written_fits : (r : Bool) (n w : ℕ) → w < 2 ^ 64 → written r n w < 2 ^ 64
+written_fits true n w h = on_fits w n h
+written_fits false n w h = off_fits w n h
 
 marks_fit : (ts : List Transition) (s : Situation) (w : ℕ) → w < 2 ^ 64 → marks ts s w < 2 ^ 64
 marks_fit [] s w h = h
-marks_fit (t ∷ ts) s w h = marks_fit ts s _ (stored_fits (clearable t s) t.number w h)
+marks_fit (t ∷ ts) s w h = marks_fit ts s _ (written_fits (clearable t s) t.number w h)
 
 abbrev has_number : ℕ → List Transition → Bool
 has_number n ts = list_any (λ t. eqb n t.number) ts
@@ -118,8 +118,8 @@ bit_marks [] s n w hn ha = refl
 bit_marks (t ∷ ts) s n w hn ha =
     let a = and_parts (not (has_number t.number ts)) (apart ts) ha in
     let new = not-true (has_number t.number ts) a.0 in
-    bit_marks ts s n (stored (clearable t s) t.number w) hn a.1
-    ∙ ap (λ x. cond (has_number n ts) (clearable_at ts s n) x) (bit_stored (clearable t s) n t.number w hn)
+    bit_marks ts s n (written (clearable t s) t.number w) hn a.1
+    ∙ ap (λ x. cond (has_number n ts) (clearable_at ts s n) x) (bit_written (clearable t s) n t.number w hn)
     ∙ mark_bools (eqb n t.number) (has_number n ts) (clearable t s) (bit n w) (clearable_at ts s n)
     (λ k. ap (λ x. has_number x ts) (eqb-true n t.number k) ∙ new)
     (not_numbered n ts s)
@@ -130,10 +130,10 @@ own_bit : (t : Transition) (ts : List Transition) (s : Situation) (w : ℕ) → 
 own_bit t ts s w k =
     let a = and_parts (not (has_number t.number ts)) (apart ts) k.apart in
     let l = ltb-true t.number 64 (and_parts (ltb t.number 64) (list_all (λ t. ltb t.number 64) ts) k.small).0 in
-    let v : ℕ = stored (clearable t s) t.number w in
+    let v : ℕ = written (clearable t s) t.number w in
     bit_marks ts s t.number v l a.1
     ∙ ap (λ b. cond b (clearable_at ts s t.number) (bit t.number v)) (not-true (has_number t.number ts) a.0)
-    ∙ bit_stored (clearable t s) t.number t.number w l
+    ∙ bit_written (clearable t s) t.number t.number w l
     ∙ ap (λ b. cond b (clearable t s) (bit t.number w)) (eq-eqb t.number t.number refl)
 
 numbered_rest : (t : Transition) (ts : List Transition) → Numbered (t ∷ ts) → Numbered ts
@@ -146,7 +146,7 @@ pub marked : (r : Transition → Bool) (ts : List Transition) (s : Situation) (w
     list_any (λ t. bit t.number (marks ts s w) && r t) ts ≡ list_any (λ t. clearable t s && r t) ts
 marked r [] s w k = refl
 marked r (t ∷ ts) s w k =
-    ap₂ (λ a b. (a && r t) || b) (own_bit t ts s w k) (marked r ts s (stored (clearable t s) t.number w) (numbered_rest t ts k))
+    ap₂ (λ a b. (a && r t) || b) (own_bit t ts s w k) (marked r ts s (written (clearable t s) t.number w) (numbered_rest t ts k))
 
 -- the frame whose bit n is on exactly if a transition with number n is clearable
 abbrev pub cleared_frame : List Transition → Situation → ℕ

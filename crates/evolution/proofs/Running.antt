@@ -14,7 +14,7 @@ use Rattle.machine.specs.declared.memory.Memory.{Memory}
 use Rattle.machine.specs.Machine.{Machine, value, load, with_state, run}
 use Rattle.machine.specs.Machine as machine
 use Rattle.evolution.specs.Chart.{Transition, transition, entries_in, transitions_in}
-use Rattle.evolution.specs.Rules.{Situation, atom_holds, holds, holds_term, holds_factor, entered, newly_active}
+use Rattle.evolution.specs.Rules.{Situation, situation, atom_holds, holds, holds_term, holds_factor, entered, newly_active}
 use Rattle.evolution.specs.Words.{state_in}
 
 pub run_append : (us vs : List Instruction) (m : Machine) → run (us ++ vs) m ≡ run vs (run us m)
@@ -24,7 +24,7 @@ run_append (u ∷ us) vs m = run_append us vs (machine.step u m)
 -- ---- conditions
 -- what conditions are judged by in a memory
 abbrev pub situation_in : Memory → Situation
-situation_in m = record { state = state_in m; inputs = m.inputs; edges = record { rises = m.rises; falls = m.falls } }
+situation_in m = situation m.inputs (record { rises = m.rises; falls = m.falls }) (state_in m)
 
 atom_value : (a : Atom) (m : Memory) → value (operand_of a) m ≡ atom_holds a (situation_in m)
 atom_value (Plain I n) m = refl
@@ -34,7 +34,7 @@ atom_value (Rise n) m = refl
 atom_value (Fall n) m = refl
 atom_value Always m = refl
 
--- a bracket: the present result is put away, the words inside give theirs, and both are joined
+-- a bracket: the result is pushed, the words inside leave theirs, and the two are combined
 pub and_bracket : (b : Bool) (ws : List Instruction) (m : Machine) →
     run ws (machine.step AndOpen m) ≡ load b (machine.step AndOpen m) →
     run (enclosed AndOpen ws) m ≡ load (m.result && b) m

@@ -1,5 +1,5 @@
 -- A program and the chart that it was compiled from. Assumes nothing.
-use Rattle.std.specs.Prelude.{◌≡◌, ℕ, Bool, true, false, List, Some, None, Ok, Option}
+use Rattle.std.specs.Prelude.{◌≡◌, ℕ, List, Ok}
 use Rattle.codefile.specs.declared.program.Program.{Program}
 use Rattle.codefile.specs.Loads.{code_in}
 use Rattle.lines.specs.Grammar.{Tree}
@@ -13,8 +13,3 @@ pub record CompiledFrom (c : Chart) (p : Program) : Type 0 where
   pub passes : chart_of_text text ≡ Ok lines
   pub chart : c ≡ chart_of_lines lines
   pub code : code_in p ≡ program_of lines
-
--- whether there is no such thing
-abbrev pub is_none : {A : Type 0} → Option A → Bool
-is_none None = true
-is_none (Some x) = false

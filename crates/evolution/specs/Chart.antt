@@ -1,11 +1,10 @@
 -- A chart: its initial steps, its transitions, and what its steps do to the outputs, in the order of the text.
 -- Assumes nothing.
-use Rattle.std.specs.Prelude.{ℕ, List, [], ◌∷◌, map}
+use Rattle.std.specs.Prelude.{ℕ, true, false, List, [], ◌∷◌, map}
 use Rattle.conditions.specs.Tree.{Cond}
 use Rattle.lines.specs.declared.shape.Number.{Number}
 use Rattle.lines.specs.declared.shape.Action.{Action}
 use Rattle.lines.specs.Grammar.{Tree, Numbers, items, empty, step, trans, hold, enter}
-use Rattle.translation.specs.Translation.{initial_frame}
 
 pub record Transition : Type 0 where
   pub number : ℕ
@@ -24,14 +23,24 @@ pub record Holding : Type 0 where
   pub step : ℕ
   pub output : ℕ
 
--- bit n of `initial` is on exactly if step n is initial
+-- `initial` has the numbers of the initial steps
 pub record Chart : Type 0 where
-  pub initial : ℕ
+  pub initial : List ℕ
   pub transitions : List Transition
   pub entries : List Entry
   pub holdings : List Holding
 
 -- ---- the chart of the lines of a text
+-- the numbers of the step lines with `initial`
+abbrev pub initials_in : List Tree → List ℕ
+initials_in [] = []
+initials_in (empty ∷ ls) = initials_in ls
+initials_in (step n true ∷ ls) = n.value ∷ initials_in ls
+initials_in (step n false ∷ ls) = initials_in ls
+initials_in (trans n fs ts c us ∷ ls) = initials_in ls
+initials_in (hold n q ∷ ls) = initials_in ls
+initials_in (enter n a q ∷ ls) = initials_in ls
+
 abbrev pub values : Numbers → List ℕ
 values ns = map (λ n. n.value) (items ns)
 
@@ -64,7 +73,7 @@ holdings_in (enter n a q ∷ ls) = holdings_in ls
 
 abbrev pub chart_of_lines : List Tree → Chart
 chart_of_lines ls = record {
-  initial = initial_frame ls;
+  initial = initials_in ls;
   transitions = transitions_in ls;
   entries = entries_in ls;
   holdings = holdings_in ls;

@@ -22,6 +22,9 @@ pub record Situation : Type 0 where
   pub inputs : ℕ
   pub edges : Edges
 
+abbrev pub situation : ℕ → Edges → State → Situation
+situation inputs edges s = record { state = s; inputs = inputs; edges = edges }
+
 abbrev pub operand_holds : Letter → ℕ → Situation → Bool
 operand_holds I n s = bit n s.inputs
 operand_holds Q n s = bit n s.state.stored
@@ -55,25 +58,26 @@ abbrev mutual
 abbrev pub is_active : ℕ → State → Bool
 is_active n s = bit n s.active
 
--- rule 2: enabled when all preceding steps are active, and clearable when the condition is true as well
+-- rule 2: the activity of every preceding step enables a transition
 abbrev pub enabled : Transition → State → Bool
 enabled t s = list_all (λ n. is_active n s) t.preceding
 
+-- enabled, and receptive: its condition is true
 abbrev pub clearable : Transition → Situation → Bool
 clearable t s = enabled t s.state && holds t.condition s
 
 abbrev pub member : ℕ → List ℕ → Bool
 member n ns = list_any (λ m. n == m) ns
 
--- rules 3 and 4: all clearable transitions are cleared together, on the state before: their preceding steps are deactivated, and
--- their succeeding steps activated
+-- rules 3 and 4: clearing is simultaneous, each transition being judged in the old situation. A step before a clearable one
+-- is deactivated, a step behind it activated
 abbrev pub deactivated : List Transition → Situation → ℕ → Bool
 deactivated ts s n = list_any (λ t. clearable t s && member n t.preceding) ts
 
 abbrev pub activated : List Transition → Situation → ℕ → Bool
 activated ts s n = list_any (λ t. clearable t s && member n t.succeeding) ts
 
--- rule 5: a step both deactivated and activated is active afterwards
+-- rule 5: activation prevails over deactivation
 abbrev pub active_after : List Transition → Situation → ℕ → Bool
 active_after ts s n = activated ts s n || (is_active n s.state && not (deactivated ts s n))
 
@@ -85,32 +89,38 @@ abbrev pub acted : Action → ℕ → ℕ → ℕ
 acted action.Set q stored = on stored q
 acted action.Reset q stored = off stored q
 
--- the stored outputs after the enter lines, in the order of the text, of the steps that went from inactive to active
+-- the stored outputs after the enter actions of these steps, in the sequence of the text
 abbrev pub entered : (ℕ → Bool) → List Entry → ℕ → ℕ
 entered went [] stored = stored
 entered went (e ∷ es) stored = entered went es (cond (went e.step) (acted e.action e.output stored) stored)
 
+-- just activated: inactive before, active after
 abbrev pub newly_active : ℕ → ℕ → ℕ → Bool
 newly_active before after n = bit n after && not (bit n before)
 
+-- one evolution: the steps by rules 2 to 5, then the enter actions of those just activated
 unfoldable pub evolved : Chart → ℕ → Edges → State → State
 evolved c inputs edges s =
-    let after = steps_after c.transitions (record { state = s; inputs = inputs; edges = edges }) in
+    let after = steps_after c.transitions (situation inputs edges s) in
     record { active = after; stored = entered (newly_active s.active after) c.entries s.stored }
 
--- no transition is clearable
+-- nothing is left to clear
 unfoldable pub at_rest : Chart → ℕ → Edges → State → Bool
-at_rest c inputs edges s = not (list_any (λ t. clearable t (record { state = s; inputs = inputs; edges = edges })) c.transitions)
+at_rest c inputs edges s = not (list_any (λ t. clearable t (situation inputs edges s)) c.transitions)
 
--- a state is stable when no transition is clearable in it with every edge false
+-- at rest with all edges false
 abbrev pub stable : Chart → ℕ → State → Bool
 stable c inputs s = at_rest c inputs no_edges s
 
--- rule 1: the initial steps are active and all else is off; then their enter lines are carried out
-abbrev pub start : Chart → State
-start c = record { active = c.initial; stored = entered (λ n. bit n c.initial) c.entries 0 }
+-- the frame of the initial steps
+unfoldable pub initial_steps : Chart → ℕ
+initial_steps c = pack 64 (λ n. member n c.initial)
 
--- the stored outputs, and every output that an active step holds
+-- rule 1: exactly the initial steps are activated, with no stored output on; their enter actions come second
+abbrev pub start : Chart → State
+start c = record { active = initial_steps c; stored = entered (λ n. bit n (initial_steps c)) c.entries 0 }
+
+-- an output is on as a stored one, or held by an active step
 abbrev pub output_on : Chart → State → ℕ → Bool
 output_on c s q = bit q s.stored || list_any (λ h. is_active h.step s && q == h.output) c.holdings
 

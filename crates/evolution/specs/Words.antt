@@ -9,7 +9,7 @@ use Rattle.machine.specs.declared.memory.Memory.{Memory}
 use Rattle.machine.specs.Machine.{after}
 use Rattle.evolution.specs.declared.state.State.{State}
 
--- the memory with a state and these inputs, and edges; P, T and H are empty
+-- a memory of this state, these inputs and edges, with P, T and H empty
 abbrev pub showing : ℕ → Edges → State → Memory
 showing inputs edges s = record {
   active = s.active;
@@ -22,7 +22,7 @@ showing inputs edges s = record {
   falls = edges.falls;
 }
 
--- P is X
+-- P := X
 abbrev pub prepared : Memory → Memory
 prepared m = record {
   active = m.active;
@@ -38,15 +38,15 @@ prepared m = record {
 abbrev pub state_in : Memory → State
 state_in m = record { active = m.active; stored = m.stored }
 
--- the memory after an evolution: P is X, T is empty, and the clear and the enter part have run
+-- the memory after P := X, the clear part and the enter part, T having been empty
 unfoldable pub ran : Program → ℕ → Edges → State → Memory
 ran p inputs edges s = after Enter p (after Clear p (prepared (showing inputs edges s)))
 
--- what is then in X and Q; None where T is empty
+-- the present X and Q; None if T is empty
 abbrev pub reached : Memory → Option State
 reached m = if m.cleared == 0 then None else Some (state_in m)
 
--- where T is empty, the state that the evolution began from is kept
+-- an evolution that ends with T empty changes nothing: what its words did to X and Q is discarded
 abbrev pub kept : State → Option State → State
 kept s None = s
 kept s (Some t) = t
@@ -54,17 +54,18 @@ kept s (Some t) = t
 abbrev pub evolved : Program → ℕ → Edges → State → State
 evolved p inputs edges s = kept s (reached (ran p inputs edges s))
 
--- a state is stable if T is empty after an evolution with every edge false
+-- an evolution with rise and fall empty ends with T empty
 abbrev pub stable : Program → ℕ → State → Bool
 stable p inputs s = (ran p inputs no_edges s).cleared == 0
 
--- the enter part runs over the initial steps; all else is empty
+-- X is set to the initial steps of the file, and the enter part runs once
 abbrev pub start : Program → State
 start p = state_in (after Enter p (showing 0 no_edges (record { active = (code_in p).initial; stored = 0 })))
 
--- the hold part runs over the state, with the inputs and no edge; Q and H together are the output frame
+-- the union of Q and H
 abbrev pub frame_in : Memory → ℕ
 frame_in m = bit_or m.stored m.held
 
+-- that union after one run of the hold part, to which the edges are empty
 abbrev pub output_frame : Program → ℕ → State → ℕ
 output_frame p inputs s = frame_in (after Hold p (showing inputs no_edges s))

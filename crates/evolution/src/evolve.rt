@@ -1,6 +1,6 @@
 //! How a state goes on, by the words of a program.
-ghost use Rattle.std.specs.Prelude.{◌≡◌};
-ghost use Rattle.evolution.specs.Agreement.{CompiledFrom, is_none};
+ghost use Rattle.std.specs.Prelude.{◌≡◌, is_none};
+ghost use Rattle.evolution.specs.Agreement.{CompiledFrom};
 ghost use Rattle.evolution.specs.Chart.{Chart};
 ghost use Rattle.evolution.specs.Rules as rules;
 ghost use Rattle.evolution.specs.Rules.{evolved, at_rest};
@@ -51,15 +51,14 @@ impl State {
         memory
     }
 
-    // What an evolution has led to; None where nothing is cleared.
+    // The present X and Q; None if T is empty.
     fn reached(memory: Memory) -> Option<State>
         ensures { result ≡ reached memory }
     {
         (memory.cleared != 0).then(|| State::of(memory))
     }
 
-    /// The start state of a program: its initial steps, after their enter lines.
-    #[tactic(auto, using(crate::proofs::Starting::start_as))]
+    /// The start state of a program: its initial steps, and the stored outputs after their enter actions.
     pub fn start(program: &Program) -> State
         ensures words { result ≡ start program.now }
         ensures chart { (c : Chart) → CompiledFrom c program.now → result ≡ rules.start c }
@@ -73,7 +72,7 @@ impl State {
         State::of(memory)
     }
 
-    /// The state after one evolution, or None where nothing is cleared, so that this state is kept.
+    /// The state after one evolution; None if nothing is cleared and the state stays as it is.
     #[tactic(auto, using(crate::proofs::Agreeing::evolved_as, crate::proofs::Agreeing::none_as))]
     pub fn evolve(self, program: &Program, inputs: u64, edges: Edges) -> Option<State>
         ensures words { result ≡ reached (ran program.now inputs edges self) }
@@ -83,7 +82,7 @@ impl State {
         State::reached(self.ran(program, inputs, edges))
     }
 
-    /// The output frame of the state: its stored outputs and the held ones.
+    /// The output frame of the state: the union of its stored outputs and the held ones.
     #[tactic(auto, using(crate::proofs::Holding::outputs_as))]
     pub fn outputs(self, program: &Program, inputs: u64) -> u64
         ensures words { result ≡ output_frame program.now inputs self }

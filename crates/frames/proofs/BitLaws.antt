@@ -2,11 +2,11 @@
 use Rattle.std.proofs.Common.{◌≡◌, ℕ, zero, suc, ◌+◌, ◌-◌, ◌*◌, ◌/◌, ◌%◌, ◌^◌, ◌<◌, ◌≤◌, min, max, Bool, true, false, cond, not, ◌&&◌, ◌||◌, eqb, ltb, sym, refl, ap, ◌∙◌, subst, ap₂, ⊎_elim, pow-suc, arith, pow_mono}
 use native.Mathlib.Nat.{div-eq_of_lt}
 use lib.Bits.{bit_and, bit_or, and_step, or_step, or_lt, and_le_l}
-use Rattle.std.proofs.lemmas.Nat.{shr-shr, pow_below}
-use Rattle.std.proofs.lemmas.Bool.{cond-true, cond-false, cases_Bool, ltb-true, ltb-false}
+use Rattle.std.proofs.lemmas.Nat.{shr-shr, pow_below, one_shl}
+use Rattle.std.proofs.lemmas.Bool.{cond-true, cond-false, cases_Bool, ltb-true, lt-ltb}
 use Rattle.std.proofs.lemmas.Bool.Decides.{nat_tests}
 use Rattle.frames.specs.Edges.{only_in}
-use Rattle.frames.specs.Bits.{bit, mask, on, off, TurnedOn, pack}
+use Rattle.frames.specs.Bits.{bit, pack, on, off, mask}
 
 pub bit_zero : (x : ℕ) → bit 0 x ≡ eqb (x % 2) 1
 unfolding bit
@@ -93,50 +93,6 @@ bit_above n x hx h =
     let below : x < 2 ^ n = omega arith in
     ap (λ (y : ℕ). eqb (y % 2) 1) (div-eq_of_lt below)
 
--- ---- one bit on, one bit off
-mask_fits : (n : ℕ) → mask n < 2 ^ 64
-unfolding mask
-mask_fits n =
-    let P : ℕ → Type 0 = λ y. y < 2 ^ 64 in
-    ⊎_elim
-    (λ h. subst P (sym (cond-true (ltb n 64) _ _ h)) (pow_below n 64 (ltb-true n 64 h)))
-    (λ h. subst P (sym (cond-false (ltb n 64) _ _ h)) (omega arith))
-    (cases_Bool (ltb n 64))
-
-bit_mask : (m n : ℕ) → m < 64 → bit m (mask n) ≡ eqb m n
-unfolding mask
-bit_mask m n hm =
-    ⊎_elim
-    (λ h. ap (bit m) (cond-true (ltb n 64) _ _ h) ∙ bit_pow m n)
-    (λ h. ap (bit m) (cond-false (ltb n 64) _ _ h) ∙ bit_nought m ∙ grind (arith, nat_tests, h, hm))
-    (cases_Bool (ltb n 64))
-
-pub bit_on : (m x n : ℕ) → m < 64 → bit m (on x n) ≡ (bit m x || eqb m n)
-bit_on m x n hm = bit_or_lem m x (mask n) ∙ ap (λ b. bit m x || b) (bit_mask m n hm)
-
-pub bit_off : (m x n : ℕ) → m < 64 → bit m (off x n) ≡ (bit m x && not (eqb m n))
-bit_off m x n hm = bit_and_lem m x (2 ^ 64 - 1 - mask n) ∙ ap (λ b. bit m x && b) (bit_rest 64 m (mask n) (mask_fits n) hm ∙ ap not (bit_mask m n hm))
-
-pub on_fits : (x n : ℕ) → x < 2 ^ 64 → on x n < 2 ^ 64
-on_fits x n hx = or_lt 64 x (mask n) hx (mask_fits n)
-
-pub off_fits : (x n : ℕ) → x < 2 ^ 64 → off x n < 2 ^ 64
-off_fits x n hx = omega (arith, and_le_l x (2 ^ 64 - 1 - mask n))
-
--- ---- which bits are on afterwards
-on_below : (b e l : Bool) → l ≡ true → (b || e) ≡ (b || e && l)
-on_below b e l h = grind (arith, nat_tests, h)
-
-on_above : (b c e l : Bool) → c ≡ false → b ≡ false → l ≡ false → c ≡ (b || e && l)
-on_above b c e l h i j = grind (arith, nat_tests, h, i, j)
-
-pub turned_on : (x n : ℕ) → x < 2 ^ 64 → TurnedOn x n (on x n)
-turned_on x n hx k =
-    ⊎_elim
-    (λ t. bit_on k x n (ltb-true k 64 t) ∙ on_below (bit k x) (eqb k n) (ltb k 64) t)
-    (λ f. let above = ltb-false k 64 f in on_above (bit k x) _ (eqb k n) (ltb k 64) (bit_above k (on x n) (on_fits x n hx) above) (bit_above k x hx above) f)
-    (cases_Bool (ltb k 64))
-
 -- ---- a number is its bits
 low_from : (x y : ℕ) → bit 0 x ≡ bit 0 y → x % 2 ≡ y % 2
 low_from x y e = let f = sym (bit_zero x) ∙ e ∙ bit_zero y in grind (arith, nat_tests, f)
@@ -172,3 +128,56 @@ unfolding only_in
 only_in_packs x y hx hy =
     packs 64 (bit_and x (2 ^ 64 - 1 - y)) _ (omega (arith, and_le_l x (2 ^ 64 - 1 - y)))
     (λ n l. bit_and_lem n x (2 ^ 64 - 1 - y) ∙ ap (λ b. bit n x && b) (bit_rest 64 n y hy l))
+
+-- ---- one bit on, one bit off
+pub bit_on : (m x n : ℕ) → m < 64 → bit m (on x n) ≡ (bit m x || eqb m n)
+unfolding on
+bit_on m x n hm = bit_pack 64 (λ k. bit k x || eqb k n) m hm
+
+pub bit_off : (m x n : ℕ) → m < 64 → bit m (off x n) ≡ (bit m x && not (eqb m n))
+unfolding off
+bit_off m x n hm = bit_pack 64 (λ k. bit k x && not (eqb k n)) m hm
+
+pub on_fits : (x n : ℕ) → x < 2 ^ 64 → on x n < 2 ^ 64
+unfolding on
+on_fits x n hx = pack_fits 64 (λ k. bit k x || eqb k n)
+
+pub off_fits : (x n : ℕ) → x < 2 ^ 64 → off x n < 2 ^ 64
+unfolding off
+off_fits x n hx = pack_fits 64 (λ k. bit k x && not (eqb k n))
+
+-- ---- the same, by the mask of the bit
+-- a one that is shifted
+pub shifted : (n : ℕ) → n < 64 → 1 * 2 ^ n % 18446744073709551616 ≡ mask n
+unfolding mask
+shifted n h = one_shl n 64 h ∙ sym (cond-true (ltb n 64) _ _ (lt-ltb n 64 h))
+
+mask_fits : (n : ℕ) → mask n < 2 ^ 64
+unfolding mask
+mask_fits n =
+    let P : ℕ → Type 0 = λ y. y < 2 ^ 64 in
+    ⊎_elim
+    (λ h. subst P (sym (cond-true (ltb n 64) _ _ h)) (pow_below n 64 (ltb-true n 64 h)))
+    (λ h. subst P (sym (cond-false (ltb n 64) _ _ h)) (omega arith))
+    (cases_Bool (ltb n 64))
+
+bit_mask : (m n : ℕ) → m < 64 → bit m (mask n) ≡ eqb m n
+unfolding mask
+bit_mask m n hm =
+    ⊎_elim
+    (λ h. ap (bit m) (cond-true (ltb n 64) _ _ h) ∙ bit_pow m n)
+    (λ h. ap (bit m) (cond-false (ltb n 64) _ _ h) ∙ bit_nought m ∙ grind (arith, nat_tests, h, hm))
+    (cases_Bool (ltb n 64))
+
+pub or_mask : (x n : ℕ) → x < 2 ^ 64 → bit_or x (mask n) ≡ on x n
+unfolding on
+or_mask x n hx =
+    packs 64 (bit_or x (mask n)) _ (or_lt 64 x (mask n) hx (mask_fits n))
+    (λ k l. bit_or_lem k x (mask n) ∙ ap (λ b. bit k x || b) (bit_mask k n l))
+
+pub and_mask : (x n : ℕ) → x < 2 ^ 64 → bit_and x (2 ^ 64 - 1 - mask n) ≡ off x n
+unfolding off
+and_mask x n hx =
+    let rest = 2 ^ 64 - 1 - mask n in
+    packs 64 (bit_and x rest) _ (omega (arith, and_le_l x rest))
+    (λ k l. bit_and_lem k x rest ∙ ap (λ b. bit k x && b) (bit_rest 64 k (mask n) (mask_fits n) l ∙ ap not (bit_mask k n l)))

@@ -7,11 +7,11 @@ use Rattle.frames.specs.declared.edges.Edges.{Edges}
 unfoldable pub only_in : ℕ → ℕ → ℕ
 only_in frame other = pack 64 (λ n. bit n frame && not (bit n other))
 
+-- neither a rise nor a fall
 abbrev pub no_edges : Edges
 no_edges = record { rises = 0; falls = 0 }
 
--- an input rises when it is on in this frame and off in the previous one, and falls in the reverse case; where there is no
--- previous frame, no edge is true
+-- on before and off now is a fall, off before and on now a rise; with no frame before there is neither
 abbrev pub edges_between : Option ℕ → ℕ → Edges
 edges_between None frame = no_edges
 edges_between (Some previous) frame = record { rises = only_in frame previous; falls = only_in previous frame }

@@ -1,6 +1,6 @@
 //! Single bits of a frame, by their numbers. A number above 63 has no bit.
 ghost use Rattle.std.specs.Prelude.{◌≡◌, ◌%◌, ◌==◌};
-ghost use Rattle.frames.specs.Bits.{bit, on, TurnedOn};
+ghost use Rattle.frames.specs.Bits.{bit, on};
 ghost use Rattle.frames.specs.Bits.{mask as masked};
 
 // The frame with this bit alone.
@@ -29,10 +29,9 @@ pub fn is_on(frame: u64, number: u8) -> bool
 }
 
 /// The frame with the bit on.
-#[tactic(auto, using(crate::proofs::BitLaws::turned_on))]
+#[tactic(auto, using(crate::proofs::BitLaws::or_mask))]
 pub fn with_on(frame: u64, number: u8) -> u64
-    ensures is { result ≡ on frame number }
-    ensures bits { TurnedOn frame number result }
+    ensures { result ≡ on frame number }
 {
     frame | mask(number)
 }

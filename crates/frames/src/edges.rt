@@ -2,7 +2,7 @@
 ghost use Rattle.std.specs.Prelude.{◌≡◌};
 ghost use Rattle.frames.specs.Edges.{only_in, no_edges, edges_between};
 
-/// The inputs that rise and those that fall.
+/// The rises and the falls of the inputs, one bit for each input.
 #[derive(Clone, Copy, PartialEq, Eq, Debug)]
 pub struct Edges {
     pub rises: u64,
@@ -18,14 +18,14 @@ fn on_only(frame: u64, other: u64) -> u64
 }
 
 impl Edges {
-    /// Every edge false.
+    /// Neither a rise nor a fall.
     pub fn none() -> Edges
         ensures { result ≡ no_edges }
     {
         Edges { rises: 0, falls: 0 }
     }
 
-    /// What rises and what falls from the previous frame to this one; where there is none, no edge is true.
+    /// On before and off now is a fall, off before and on now a rise; with no frame before there is neither.
     pub fn between(previous: Option<u64>, frame: u64) -> Edges
         ensures { result ≡ edges_between previous frame }
     {

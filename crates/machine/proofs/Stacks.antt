@@ -1,7 +1,7 @@
 -- The open brackets in an array. Assumes nothing.
 use Rattle.std.proofs.Common.{◌≡◌, ◌≢◌, ℕ, zero, suc, ◌+◌, ◌<◌, ◌≤◌, List, ◌∷◌, length, refl, ap, ◌∙◌, ap₂, add-one, arith, get_or-set_other, get_or-set_same}
 use Rattle.std.proofs.Math.ListN.{set}
-use Rattle.machine.specs.declared.memory.Bracket.{Bracket}
+use Rattle.machine.specs.declared.machine.Bracket.{Bracket}
 use Rattle.machine.specs.View.{stacked}
 
 -- what stands above the open brackets does not count

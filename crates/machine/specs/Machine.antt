@@ -13,8 +13,8 @@ use Rattle.words.specs.Words.{instruction_of}
 use Rattle.codefile.specs.declared.program.Program.{Program}
 use Rattle.codefile.specs.Loads.{code_in, words_in}
 use Rattle.machine.specs.declared.memory.Memory.{Memory}
-use Rattle.machine.specs.declared.memory.Bracket.{Bracket}
-use Rattle.machine.specs.declared.memory.Bracket.TheVariants as bracket
+use Rattle.machine.specs.declared.machine.Bracket.{Bracket}
+use Rattle.machine.specs.declared.machine.Bracket.TheVariants as bracket
 
 -- the result, the open brackets, the last one first, and the memory
 pub record Machine : Type 0 where
@@ -38,13 +38,15 @@ value operand.Always m = true
 value (operand.Cleared n) m = bit n m.cleared
 value (operand.Before n) m = bit n m.before
 
--- bit n of a frame as the result is; on if the result is on; off if the result is on
-abbrev pub stored : Bool → ℕ → ℕ → ℕ
-stored r n x = cond r (on x n) (off x n)
+-- bit n becomes the result, on or off
+abbrev pub written : Bool → ℕ → ℕ → ℕ
+written r n x = cond r (on x n) (off x n)
 
+-- bit n becomes on if the result is on; otherwise no change
 abbrev pub set : Bool → ℕ → ℕ → ℕ
 set r n x = cond r (on x n) x
 
+-- bit n becomes off if the result is on; otherwise no change
 abbrev pub reset : Bool → ℕ → ℕ → ℕ
 reset r n x = cond r (off x n) x
 
@@ -98,15 +100,16 @@ load b m = record { result = b; stack = m.stack; memory = m.memory }
 abbrev pub write : Memory → Machine → Machine
 write n m = record { result = m.result; stack = m.stack; memory = n }
 
--- the present result is put away, and stays the result
+-- the bracket is pushed; the result itself is unchanged
 abbrev pub opened : Bracket → Machine → Machine
 opened b m = record { result = m.result; stack = b ∷ m.stack; memory = m.memory }
 
--- what was put away last is joined with the present result
+-- a popped bracket, combined with the result by its operator
 abbrev pub joined : Bracket → Bool → Bool
 joined (bracket.And a) b = a && b
 joined (bracket.Or a) b = a || b
 
+-- the last bracket is popped; with none open nothing changes
 abbrev pub closed : List Bracket → Bool → Memory → Machine
 closed [] r m = record { result = r; stack = []; memory = m }
 closed (b ∷ bs) r m = record { result = joined b r; stack = bs; memory = m }
@@ -122,7 +125,7 @@ step AndOpen m = opened (bracket.And m.result) m
 step OrOpen m = opened (bracket.Or m.result) m
 step Close m = closed m.stack m.result m.memory
 step Not m = load (not m.result) m
-step (Store n) m = write (with_cleared (stored m.result n m.memory.cleared) m.memory) m
+step (Store n) m = write (with_cleared (written m.result n m.memory.cleared) m.memory) m
 step (Set t) m = write (altered (set m.result) t m.memory) m
 step (Reset t) m = write (altered (reset m.result) t m.memory) m
 step (Hold n) m = write (with_held (set m.result n m.memory.held) m.memory) m

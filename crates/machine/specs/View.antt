@@ -1,7 +1,7 @@
 -- What the machine of the code stands for. Assumes nothing.
 use Rattle.std.specs.Prelude.{ℕ, zero, suc, false, List, [], ◌∷◌, slice_index_or}
-use Rattle.machine.specs.declared.memory.Bracket.{Bracket}
-use Rattle.machine.specs.declared.memory.Bracket.TheVariants.{And}
+use Rattle.machine.specs.declared.machine.Bracket.{Bracket}
+use Rattle.machine.specs.declared.machine.Bracket.TheVariants.{And}
 use Rattle.machine.specs.declared.machine.Machine.{Machine as Kept}
 use Rattle.machine.specs.Machine.{Machine}
 

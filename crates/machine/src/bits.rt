@@ -12,7 +12,7 @@ pub(crate) fn has(frame: u64, number: u8) -> bool
 }
 
 // The frame with the bit on.
-#[tactic(auto, using(crate::proofs::Masks::shifted))]
+#[tactic(auto, using(frames::proofs::BitLaws::shifted, frames::proofs::BitLaws::or_mask))]
 pub(crate) fn with(frame: u64, number: u8) -> u64
     requires { number < 64 }
     ensures { result ≡ on frame number }
@@ -21,7 +21,7 @@ pub(crate) fn with(frame: u64, number: u8) -> u64
 }
 
 // The frame with the bit off.
-#[tactic(auto, using(crate::proofs::Masks::shifted))]
+#[tactic(auto, using(frames::proofs::BitLaws::shifted, frames::proofs::BitLaws::and_mask))]
 pub(crate) fn without(frame: u64, number: u8) -> u64
     requires { number < 64 }
     ensures { result ≡ off frame number }

@@ -4,8 +4,15 @@ ghost use Rattle.words.specs.Words.{number_in, word_of};
 ghost use Rattle.words.specs.Brackets.{spoils, after};
 ghost use Rattle.machine.specs.Machine.{begin, joined as joined_by, step as stepped};
 
-use crate::memory::{Bracket, Memory};
+use crate::memory::Memory;
 use words::instruction::Instruction;
+
+// An open bracket: its operator, and the result that was pushed with it.
+#[derive(Clone, Copy)]
+pub(crate) enum Bracket {
+    And(bool),
+    Or(bool),
+}
 
 // The result, the brackets, of which the first `depth` are open, and the memory.
 #[derive(Drop)]
@@ -17,7 +24,7 @@ pub(crate) struct Machine {
     ghost within: { depth ≤ 17 },
 }
 
-// What was put away, joined with the result.
+// A popped bracket, combined with the result.
 fn joined(bracket: Bracket, inside: bool) -> bool
     ensures { result ≡ joined_by bracket inside }
 {

@@ -1,6 +1,6 @@
 //! The memory that the machine works on.
 
-/// A frame for each area of docs/machine.md: bit n is the operand numbered n.
+/// Bit n of a frame is the operand numbered n of its area.
 #[derive(Clone, Copy, PartialEq, Eq, Debug)]
 pub struct Memory {
     /// X: the active steps.
@@ -17,11 +17,4 @@ pub struct Memory {
     pub inputs: u64,
     pub rises: u64,
     pub falls: u64,
-}
-
-/// An open bracket: the result that was put away, and how it will be joined with the bracket's own.
-#[derive(Clone, Copy, PartialEq, Eq, Debug)]
-pub enum Bracket {
-    And(bool),
-    Or(bool),
 }

@@ -1,7 +1,7 @@
 //! What an instruction reads and writes of the memory.
 ghost use Rattle.std.specs.Prelude.{◌≡◌, ◌<◌};
 ghost use Rattle.words.specs.Words.{operand_number, target_number};
-ghost use Rattle.machine.specs.Machine.{value, stored as stored_if, set as set_if, reset as reset_if};
+ghost use Rattle.machine.specs.Machine.{value, written as written_if, set as set_if, reset as reset_if};
 ghost use Rattle.machine.specs.Machine.{with_cleared, with_held, altered};
 
 use crate::bits::{has, with, without};
@@ -29,7 +29,7 @@ impl Memory {
     // Writes the result to a cleared transition.
     pub(crate) fn store(&mut self, on: bool, number: u8)
         requires { number < 64 }
-        ensures { self.new ≡ with_cleared (stored_if on number self.old.cleared) self.old }
+        ensures { self.new ≡ with_cleared (written_if on number self.old.cleared) self.old }
     {
         self.cleared = if on {
             with(self.cleared, number)
