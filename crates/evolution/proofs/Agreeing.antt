@@ -25,7 +25,7 @@ ran_as c p inputs edges s k h =
     let i = chart_instructions c p k in
     let x : Memory = prepared (showing inputs edges s) in
     ap₂ (λ clear enter. (run enter (begin (run clear (begin x)).memory)).memory) i.clear i.enter
-    ∙ parts_evolve k.lines inputs edges s (subst (λ (d : Chart). Numbered d.transitions) k.chart (numbered c p k)) h
+    ∙ parts_evolve k.made.lines inputs edges s (subst (λ (d : Chart). Numbered d.transitions) k.chart (numbered c p k)) h
     ∙ ap (λ (d : Chart). evolved_memory d inputs edges s) (sym k.chart)
 
 -- T is empty where the chart is at rest

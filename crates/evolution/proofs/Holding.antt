@@ -68,6 +68,6 @@ pub outputs_as : (c : Chart) (p : Program) (inputs : ℕ) (s : State) → Compil
 unfolding after
 outputs_as c p inputs s k f =
     ap (λ is. frame_in (run is (begin (showing inputs no_edges s))).memory) (chart_instructions c p k).hold
-    ∙ frame_run k.lines inputs s
-    ∙ frame_as k.lines s f
+    ∙ frame_run k.made.lines inputs s
+    ∙ frame_as k.made.lines s f
     ∙ ap (λ (d : Chart). rules.output_frame d s) (sym k.chart)

@@ -42,15 +42,15 @@ decoded :
 decoded part p ls is code words s =
     ap (λ c. map instruction_of (words_in part c)) code ∙ ap (map instruction_of) words ∙ s.back
 
-pub lines_of_chart : (c : Chart) (p : Program) (k : CompiledFrom c p) → AllFit k.lines
-lines_of_chart c p k = lines_fit k.text k.lines k.passes
+pub lines_of_chart : (c : Chart) (p : Program) (k : CompiledFrom c p) → AllFit k.made.lines
+lines_of_chart c p k = lines_fit k.text k.made.lines k.made.passes
 
-pub chart_instructions : (c : Chart) (p : Program) (k : CompiledFrom c p) → ChartInstructions p k.lines
+pub chart_instructions : (c : Chart) (p : Program) (k : CompiledFrom c p) → ChartInstructions p k.made.lines
 chart_instructions c p k =
-    let s = parts_sound k.lines (lines_of_chart c p k) in record {
-      clear = decoded Clear p k.lines (clear_part k.lines) k.code refl s.clear;
-      enter = decoded Enter p k.lines (enter_part k.lines) k.code refl s.enter;
-      hold = decoded Hold p k.lines (hold_part k.lines) k.code refl s.hold;
+    let s = parts_sound k.made.lines (lines_of_chart c p k) in record {
+      clear = decoded Clear p k.made.lines (clear_part k.made.lines) k.made.code refl s.clear;
+      enter = decoded Enter p k.made.lines (enter_part k.made.lines) k.made.code refl s.enter;
+      hold = decoded Hold p k.made.lines (hold_part k.made.lines) k.made.code refl s.hold;
     }
 
 -- ---- no fault
@@ -63,8 +63,8 @@ no_fault : (r : Result (List Tree) TextFault) (e : ℕ) (ls : List Tree) → cha
 no_fault (Ok ks) e ls h = checked ks ls e (chart_of ks e) (chart_law ks e) h
 no_fault (Err g) e ls h = let z : ◌≡◌ {A = ℕ} 0 1 = cc in absurd (omega arith)
 
-pub faultless : (c : Chart) (p : Program) (k : CompiledFrom c p) → Faultless k.lines
-faultless c p k = no_fault (lines_of k.text) (length k.text) k.lines k.passes
+pub faultless : (c : Chart) (p : Program) (k : CompiledFrom c p) → Faultless k.made.lines
+faultless c p k = no_fault (lines_of k.text) (length k.text) k.made.lines k.made.passes
 
 -- ---- numbers that stand once
 -- that one of the numbers, at this place, is m
@@ -132,6 +132,6 @@ numbered c p k =
     let is = faultless c p k in
     subst (λ (d : Chart). Numbered d.transitions) (sym k.chart)
     (record {
-      small = all_small k.lines (lines_of_chart c p k);
-      apart = apart_once k.lines ∙ all_once (all transitions_of k.lines) (λ place r. is (DeclaredTwice place) (inr r));
+      small = all_small k.made.lines (lines_of_chart c p k);
+      apart = apart_once k.made.lines ∙ all_once (all transitions_of k.made.lines) (λ place r. is (DeclaredTwice place) (inr r));
     })

@@ -61,7 +61,7 @@ pub start_as : (c : Chart) (p : Program) → CompiledFrom c p → start p ≡ ru
 unfolding after
 start_as c p k =
     ap (λ is. state_in (run is (begin (begun (code_in p).initial))).memory) (chart_instructions c p k).enter
-    ∙ ap (λ (d : Code). state_in (run (enter_part k.lines) (begin (begun d.initial))).memory) k.code
-    ∙ start_run k.lines (initial_frame k.lines)
-    ∙ ap (first (entries_in k.lines)) (initial_as k.lines)
+    ∙ ap (λ (d : Code). state_in (run (enter_part k.made.lines) (begin (begun d.initial))).memory) k.made.code
+    ∙ start_run k.made.lines (initial_frame k.made.lines)
+    ∙ ap (first (entries_in k.made.lines)) (initial_as k.made.lines)
     ∙ ap rules.start (sym k.chart)
