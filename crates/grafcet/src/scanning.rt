@@ -7,10 +7,9 @@ ghost use Rattle.verdict.specs.Scans.{Scanned as IsScanned};
 ghost use Rattle.grafcet.specs.Scans.{delivered as delivered_frame, resumed};
 
 use crate::failure::Failure;
-use crate::files::read_file;
+use crate::load::load_program;
 use codefile::program::Program;
 use evolution::state::State;
-use faults::Fault;
 use std::io;
 use verdict::outcome::{Outcome, Verdict};
 use verdict::scan::scan;
@@ -113,13 +112,7 @@ fn frames_of(rt: &HostRuntime, texts: &[String]) -> Result<Vec<u64>, Failure> {
 
 pub fn run(rt: &HostRuntime, path: &str, texts: &[String]) -> Result<(), Failure> {
     let frames = frames_of(rt, texts)?;
-    let bytes = read_file(rt, path)?;
-    let mut program = Program::new(rt.alloc())?;
-    if let Err(e) = program.load(&bytes) {
-        let fault = Fault::from(e);
-        println!(rt; "refused {fault}")?;
-        return Err(Failure::Refused(fault));
-    }
+    let program = load_program(rt, path)?;
     print_scans(rt, &program, &frames)?;
     Ok(())
 }
