@@ -1,10 +1,13 @@
 //! Scans of a program, frame by frame, and `grafcet scan CODE FRAME..`: the scans of a code file.
 ghost use Rattle.std.specs.Prelude.{◌≡◌, None as NoFrame};
 ghost use Rattle.frames.specs.Edges.{edges_between};
+ghost use Rattle.evolution.specs.Agreement.{CompiledFrom};
+ghost use Rattle.evolution.specs.Chart.{Chart};
+ghost use Rattle.evolution.specs.Rules.{start as start_of_chart};
 ghost use Rattle.evolution.specs.Words.{start};
-ghost use Rattle.verdict.specs.Rules.{by_words};
+ghost use Rattle.verdict.specs.Rules.{by_words, by_chart};
 ghost use Rattle.verdict.specs.Scans.{Scanned as IsScanned};
-ghost use Rattle.grafcet.specs.Scans.{delivered as delivered_frame, resumed};
+ghost use Rattle.grafcet.specs.Scans.{delivered as delivered_frame, delivered_by_chart, resumed};
 
 use crate::failure::Failure;
 use crate::load::load_program;
@@ -31,7 +34,8 @@ pub struct Standing {
 
 // The output frame of a stable state, and otherwise no output.
 fn delivered(program: &Program, outcome: Outcome, inputs: u64) -> u64
-    ensures { result ≡ delivered_frame program.now outcome inputs }
+    ensures words { result ≡ delivered_frame program.now outcome inputs }
+    ensures chart { (c : Chart) → CompiledFrom c program.now → result ≡ delivered_by_chart c outcome }
 {
     match outcome.verdict {
         Verdict::Stable(_) => outcome.state.outputs(program, inputs),
@@ -42,7 +46,9 @@ fn delivered(program: &Program, outcome: Outcome, inputs: u64) -> u64
 impl Standing {
     /// The start state, and no previous frame.
     pub fn start(program: &Program) -> Standing
-        ensures { result ≡ record { state = start program.now; previous = NoFrame } }
+        ensures words { result ≡ record { state = start program.now; previous = NoFrame } }
+        ensures chart { (c : Chart) → CompiledFrom c program.now →
+            result ≡ record { state = start_of_chart c; previous = NoFrame } }
     {
         Standing {
             state: State::start(program),
@@ -65,10 +71,14 @@ impl Standing {
 
     /// Scans a frame and delivers.
     pub fn take(&mut self, program: &Program, inputs: u64) -> Scanned
-        ensures scanned { IsScanned (by_words program.now inputs) (edges_between self.old.previous inputs) self.old.state
+        ensures words { IsScanned (by_words program.now inputs) (edges_between self.old.previous inputs) self.old.state
             result.outcome }
+        ensures chart { (c : Chart) → CompiledFrom c program.now →
+            IsScanned (by_chart c inputs) (edges_between self.old.previous inputs) self.old.state result.outcome }
         ensures inputs { result.inputs ≡ inputs }
         ensures outputs { result.outputs ≡ delivered_frame program.now result.outcome inputs }
+        ensures chart_outputs { (c : Chart) → CompiledFrom c program.now →
+            result.outputs ≡ delivered_by_chart c result.outcome }
         ensures standing { self.new ≡ resumed self.old result.outcome inputs }
     {
         let outcome = scan(program, self.state, self.previous, inputs);
