@@ -6,7 +6,7 @@ ghost use Rattle.evolution.specs.Chart.{Chart};
 ghost use Rattle.evolution.specs.Rules.{start as start_of_chart};
 ghost use Rattle.evolution.specs.Words.{start};
 ghost use Rattle.verdict.specs.Rules.{by_words, by_chart};
-ghost use Rattle.verdict.specs.Scans.{Scanned as IsScanned};
+ghost use Rattle.verdict.specs.Scans.{Scanned};
 ghost use Rattle.grafcet.specs.Scans.{delivered as delivered_frame, delivered_by_chart, resumed};
 
 use crate::failure::Failure;
@@ -19,8 +19,7 @@ use verdict::scan::scan;
 
 /// What a frame came to, and the frame that is delivered.
 #[derive(Clone, Copy, PartialEq, Eq, Debug)]
-pub struct Scanned {
-    pub inputs: u64,
+pub struct Row {
     pub outcome: Outcome,
     pub outputs: u64,
 }
@@ -70,12 +69,11 @@ impl Standing {
     }
 
     /// Scans a frame and delivers.
-    pub fn take(&mut self, program: &Program, inputs: u64) -> Scanned
-        ensures words { IsScanned (by_words program.now inputs) (edges_between self.old.previous inputs) self.old.state
+    pub fn take(&mut self, program: &Program, inputs: u64) -> Row
+        ensures words { Scanned (by_words program.now inputs) (edges_between self.old.previous inputs) self.old.state
             result.outcome }
         ensures chart { (c : Chart) → CompiledFrom c program.now →
-            IsScanned (by_chart c inputs) (edges_between self.old.previous inputs) self.old.state result.outcome }
-        ensures inputs { result.inputs ≡ inputs }
+            Scanned (by_chart c inputs) (edges_between self.old.previous inputs) self.old.state result.outcome }
         ensures outputs { result.outputs ≡ delivered_frame program.now result.outcome inputs }
         ensures chart_outputs { (c : Chart) → CompiledFrom c program.now →
             result.outputs ≡ delivered_by_chart c result.outcome }
@@ -84,31 +82,36 @@ impl Standing {
         let outcome = scan(program, self.state, self.previous, inputs);
         let outputs = delivered(program, outcome, inputs);
         *self = self.after(outcome, inputs);
-        Scanned {
-            inputs,
-            outcome,
-            outputs,
-        }
+        Row { outcome, outputs }
     }
 }
 
-// A line for each frame. A scan that is not stable is the last one.
-fn print_scans(rt: &HostRuntime, program: &Program, frames: &[u64]) -> io::Result<()> {
+/// Scans the frames one after the other, each delivered, and tells what each comes to. A scan that is not stable is the
+/// last one.
+pub fn tell_scans<F: FnMut(u64, Row) -> io::Result<()>>(
+    program: &Program,
+    frames: &[u64],
+    mut tell: F,
+) -> io::Result<()>
+    requires { F.IsAlwaysCallable tell }
+{
     let mut standing = Standing::start(program);
     for &frame in frames {
-        let Scanned {
-            inputs,
-            outcome,
-            outputs,
-        } = standing.take(program, frame);
-        let Outcome { verdict, state } = outcome;
-        let active = state.active;
-        println!(rt; "{inputs} {verdict} {outputs:016x} {active:016x}")?;
-        if !matches!(verdict, Verdict::Stable(_)) {
+        let row = standing.take(program, frame);
+        tell(frame, row)?;
+        if !matches!(row.outcome.verdict, Verdict::Stable(_)) {
             break;
         }
     }
     Ok(())
+}
+
+// The line of a scan.
+fn print_row(rt: &HostRuntime, frame: u64, row: Row) -> io::Result<()> {
+    let Row { outcome, outputs } = row;
+    let Outcome { verdict, state } = outcome;
+    let active = state.active;
+    println!(rt; "{frame} {verdict} {outputs:016x} {active:016x}")
 }
 
 // The frames that the arguments name.
@@ -123,6 +126,6 @@ fn frames_of(rt: &HostRuntime, texts: &[String]) -> Result<Vec<u64>, Failure> {
 pub fn run(rt: &HostRuntime, path: &str, texts: &[String]) -> Result<(), Failure> {
     let frames = frames_of(rt, texts)?;
     let program = load_program(rt, path)?;
-    print_scans(rt, &program, &frames)?;
+    tell_scans(&program, &frames, |frame, row| print_row(rt, frame, row))?;
     Ok(())
 }
