@@ -37,7 +37,8 @@ atom_holds (Fall n) s = bit n s.edges.falls
 atom_holds Always s = true
 
 abbrev mutual
-  -- whether a condition is true: one of its terms is, all of a term's factors, and a factor with `!` if what it negates is not
+  -- whether a condition is true: one of its terms is; a term if all its factors are; a factor with `!` if what it negates
+  -- is not
   pub holds : Cond → Situation → Bool
   holds (term t) s = holds_term t s
   holds (or c t) s = holds c s || holds_term t s
@@ -69,8 +70,8 @@ clearable t s = enabled t s.state && holds t.condition s
 abbrev pub member : ℕ → List ℕ → Bool
 member n ns = list_any (λ m. n == m) ns
 
--- rules 3 and 4: clearing is simultaneous, each transition being judged in the old situation. A step before a clearable one
--- is deactivated, a step behind it activated
+-- rules 3 and 4: clearing is simultaneous, each transition being judged in the old situation. A step before a clearable
+-- one is deactivated, a step behind it activated
 abbrev pub deactivated : List Transition → Situation → ℕ → Bool
 deactivated ts s n = list_any (λ t. clearable t s && member n t.preceding) ts
 

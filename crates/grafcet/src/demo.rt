@@ -1,5 +1,5 @@
-//! `grafcet` alone: a chart text is compiled, its code file is loaded and listed, frames are scanned, and wrong texts and
-//! damaged files are refused.
+//! `grafcet` alone: a chart text is compiled, its code file is loaded and listed, frames are scanned, and wrong texts
+//! and damaged files are refused.
 use crate::cause::cause_of;
 use crate::compiling::{LONGEST_FILE, print_compiled};
 use crate::damage::{Damage, try_damaged};

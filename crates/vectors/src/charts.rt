@@ -26,8 +26,8 @@ pub(crate) const fn expect(inputs: u64, verdict: Verdict, outputs: u64, active: 
     }
 }
 
-/// Scans the frames of the rows one after the other, from the start state on, and compares. After a scan that is not stable
-/// the next one goes on from the state and the frame before it.
+/// Scans the frames of the rows one after the other, from the start state on, and compares. After a scan that is not
+/// stable the next one goes on from the state and the frame before it.
 pub(crate) fn judge_scans(rt: &impl Abort, program: &Program, rows: &[Row]) -> Result<(), Fail> {
     let mut state = State::start(program);
     let mut previous = None;

@@ -1,5 +1,5 @@
-//! Tests: chart texts and code files at each limit and one past it, charts and files that run, a fault on its way up, and a
-//! list's room.
+//! Tests: chart texts and code files at each limit and one past it, charts and files that run, a fault on its way up,
+//! and a list's room.
 #![tactic(auto)]
 
 #[cfg(test)]

@@ -218,7 +218,8 @@ fn result_of(program: &Program, inputs: u64, edges: Edges) -> bool {
     after.is_some_and(|s| s.stored % 2 == 1)
 }
 
-// Compares the result of the instructions where neither input is on, where input 0 is, where input 1 is, and where both are.
+// Compares the result of the instructions where neither input is on, where input 0 is, where input 1 is, and where both
+// are.
 fn judge_results(
     rt: &impl Abort,
     heap: Global,
