@@ -58,7 +58,7 @@ start_run ls x =
     ∙ ap (λ (q : ℕ). let s : State = record { active = x; stored = q } in s) (entered_first (entries_in ls) x 0)
 
 pub start_as : (c : Chart) (p : Program) → CompiledFrom c p → start p ≡ rules.start c
-unfolding after
+unfolding after rules.start
 start_as c p k =
     ap (λ is. state_in (run is (begin (begun (code_in p).initial))).memory) (chart_instructions c p k).enter
     ∙ ap (λ (d : Code). state_in (run (enter_part k.made.lines) (begin (begun d.initial))).memory) k.made.code

@@ -118,7 +118,7 @@ unfoldable pub initial_steps : Chart → ℕ
 initial_steps c = pack 64 (λ n. member n c.initial)
 
 -- rule 1: exactly the initial steps are activated, with no stored output on; their enter actions come second
-abbrev pub start : Chart → State
+unfoldable pub start : Chart → State
 start c = record { active = initial_steps c; stored = entered (λ n. bit n (initial_steps c)) c.entries 0 }
 
 -- an output is on as a stored one, or held by an active step

@@ -59,6 +59,7 @@ impl State {
     }
 
     /// The start state of a program: its initial steps, and the stored outputs after their enter actions.
+    #[tactic(auto, using(crate::proofs::Starting::start_as))]
     pub fn start(program: &Program) -> State
         ensures words { result ≡ start program.now }
         ensures chart { (c : Chart) → CompiledFrom c program.now → result ≡ rules.start c }
