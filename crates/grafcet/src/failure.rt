@@ -14,13 +14,11 @@ pub enum Failure {
     Arguments(io::Error),
     /// They name no command.
     Usage,
-    /// An argument is no frame.
-    NoFrame,
     /// The file cannot be read.
     Unreadable(io::Error),
     /// The file is refused.
     Refused(Fault),
-    /// The text is refused, and the reason is told already.
+    /// The reason is told already.
     Reported,
     /// The code file has the name of the chart.
     OverChart,
@@ -39,7 +37,6 @@ impl fmt::Display for Failure {
                 f,
                 "grafcet\n       grafcet compile CHART OUT\n       grafcet load FILE\n       grafcet scan CODE FRAME.."
             ),
-            Failure::NoFrame => write!(f, "a frame is a number from 0 to 18446744073709551615"),
             Failure::Unreadable(error) => write!(f, "cannot be read: {error}"),
             Failure::Refused(fault) => {
                 let place = fault.place();

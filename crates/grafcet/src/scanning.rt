@@ -1,5 +1,6 @@
 //! Scans of a program, frame by frame, and `grafcet scan CODE FRAME..`: the scans of a code file.
 ghost use Rattle.std.specs.Prelude.{◌≡◌, None as NoFrame};
+ghost use Rattle.std.specs.Str.Parse.{ParsesUnsigned};
 ghost use Rattle.frames.specs.Edges.{edges_between};
 ghost use Rattle.evolution.specs.Agreement.{CompiledFrom};
 ghost use Rattle.evolution.specs.Chart.{Chart};
@@ -114,11 +115,24 @@ fn print_row(rt: &HostRuntime, frame: u64, row: Row) -> io::Result<()> {
     println!(rt; "{frame} {verdict} {outputs:016x} {active:016x}")
 }
 
+// The frame that an argument names. One that is no such number is told on standard error.
+fn frame_of(rt: &HostRuntime, text: &str) -> Result<u64, Failure>
+    ensures { ParsesUnsigned 64 10 text.now result }
+{
+    text.parse::<u64>().map_err(|_| {
+        let _ = eprintln!(rt;
+            "frame {text:?}: a frame is a number from 0 to {}",
+            u64::MAX
+        );
+        Failure::Reported
+    })
+}
+
 // The frames that the arguments name.
 fn frames_of(rt: &HostRuntime, texts: &[String]) -> Result<Vec<u64>, Failure> {
     let mut frames = vec![in rt.alloc(); 0u64; texts.len()]?;
     for (frame, text) in frames.iter_mut().zip(texts) {
-        *frame = text.parse::<u64>().map_err(|_| Failure::NoFrame)?;
+        *frame = frame_of(rt, text)?;
     }
     Ok(frames)
 }
