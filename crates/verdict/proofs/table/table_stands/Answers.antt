@@ -1,8 +1,8 @@
 use Rattle.std.proofs.Common.{◌≡◌, ℕ, refl, ap, arith}
-use Rattle.frames.specs.Bits.{bit, on, off}
+use Rattle.frames.specs.Bits.{bit, on}
 use Rattle.frames.specs.Edges.{only_in}
 use Rattle.evolution.specs.declared.state.State.{State}
-use Rattle.evolution.specs.Rules.{evolved, at_rest, initial_steps, output_frame}
+use Rattle.evolution.specs.Rules.{evolved, at_rest, initial_steps, start, output_frame}
 use Rattle.verdict.proofs.Worked.{stable_1, stable_2, circling_2, circling_3}
 use Rattle.verdict.proofs.table.table_stands.Goals as goal
 
@@ -10,7 +10,7 @@ abbrev state : ℕ → ℕ → State
 state active stored = record { active = active; stored = stored }
 
 pub returns : goal.returns
-unfolding bit on off only_in evolved at_rest output_frame initial_steps
+unfolding bit on only_in evolved at_rest initial_steps start output_frame
 returns c = record {
   two_steps = record {
     lines = _;
