@@ -87,15 +87,25 @@ fn show_program(rt: &HostRuntime, program: &Program, length: usize) -> io::Resul
     show_scans(rt, program, &FRAMES)
 }
 
+// The task, from the chart's text on.
+fn go_through(
+    rt: &HostRuntime,
+    compiler: &mut Compiler,
+    buffer: &mut [u8],
+    program: &mut Program,
+) -> Result<(), Failure> {
+    let length = compiler.build(TEXT.as_bytes(), buffer, program)?;
+    show_program(rt, program, length)?;
+    try_damages(rt, program, &buffer[..length])?;
+    try_texts(rt, compiler, buffer)?;
+    try_turns(rt, compiler, buffer, program)
+}
+
 pub fn run(rt: &HostRuntime) -> Result<(), Failure> {
     println!(rt; "The chart:")?;
     print_text(rt, TEXT)?;
     let mut compiler = Compiler::new(rt.alloc())?;
     let mut program = Program::new(rt.alloc())?;
     let mut buffer = vec![in rt.alloc(); 0u8; LONGEST_FILE]?;
-    let length = compiler.build(TEXT.as_bytes(), &mut buffer, &mut program)?;
-    show_program(rt, &program, length)?;
-    try_damages(rt, &mut program, &buffer[..length])?;
-    try_texts(rt, &mut compiler, &mut buffer)?;
-    try_turns(rt, &mut compiler, &mut buffer, &mut program)
+    go_through(rt, &mut compiler, &mut buffer, &mut program)
 }
