@@ -1,0 +1,4 @@
+pub mod Standing
+pub mod Calls
+pub mod Beside
+pub mod Closing

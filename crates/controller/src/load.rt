@@ -1,0 +1,30 @@
+//! Loading a code file into the controller.
+ghost use Rattle.std.specs.Prelude.{◌≡◌, OnOk, OnErr};
+ghost use Rattle.evolution.specs.Agreement.{CompiledFrom};
+ghost use Rattle.evolution.specs.Chart.{Chart};
+ghost use Rattle.plain.specs.Behaviours.{by_words, by_chart};
+ghost use Rattle.controller.specs.Standing.{stage_of};
+ghost use Rattle.controller.specs.Calls.{fault_of, load_refusal, Loaded};
+
+use crate::controller::Controller;
+use crate::phase::Phase;
+use faults::{ControllerFault, Fault};
+
+impl Controller {
+    /// Takes the program of a code file and begins with it, or names why not and changes nothing.
+    pub fn load(&mut self, bytes: &[u8]) -> Result<(), Fault>
+        ensures fault { fault_of result ≡ load_refusal (stage_of self.old.phase) bytes.now }
+        ensures loaded { OnOk result (Loaded bytes.now self.new) }
+        ensures words { OnOk result (self.new.state ≡ (by_words self.new.program).begins) }
+        ensures chart { (c : Chart) → CompiledFrom c self.new.program →
+            OnOk result (self.new.state ≡ (by_chart c).begins) }
+        ensures refused { OnErr result (self.new ≡ self.old) }
+    {
+        if let Phase::Sampled(_) | Phase::Worked(..) = self.phase {
+            return Err(Fault::from(ControllerFault::ScanOpen));
+        }
+        self.program.load(bytes)?;
+        self.begin();
+        Ok(())
+    }
+}
