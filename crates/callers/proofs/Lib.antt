@@ -1,0 +1,5 @@
+pub mod Scanning
+pub mod Calling
+pub mod TwoCalls
+pub mod FirstDrive
+pub mod Alike

@@ -1,0 +1,4 @@
+pub mod Loading
+pub mod Campaigning
+pub mod Cutting
+pub mod Ending

@@ -1,0 +1,4 @@
+pub mod Texts
+pub mod Endings
+pub mod CallLists
+pub mod ListErrors
