@@ -1,15 +1,15 @@
 //! `grafcet compile CHART OUT`: compiles a chart text to a code file.
 ghost use Rattle.std.specs.Prelude.{◌≡◌, ℕ, ◌+◌, ◌*◌};
 
-use crate::cause::cause_of;
-use crate::excerpt::excerpt;
 use crate::failure::Failure;
 use crate::files::read_file;
-use crate::position::{Position, position_at};
 use compile::compiler::Compiler;
 use faults::Fault;
 use std::alloc::AllocError;
 use std::{fs, io};
+use telling::cause::cause_of;
+use telling::excerpt::excerpt;
+use telling::position::{Position, position_at};
 
 /// The length of the longest code file: 44 bytes and 4,096 words.
 pub const LONGEST_FILE: usize = 16428;
@@ -36,24 +36,34 @@ fn report(rt: &HostRuntime, path: &str, text: &[u8], fault: Fault) -> Result<(),
     Ok(())
 }
 
+/// Tells that a text is refused, and where it is at fault.
+pub fn refuse(rt: &HostRuntime, path: &str, text: &[u8], fault: Fault) -> Result<(), Failure> {
+    println!(rt; "refused {fault}")?;
+    report(rt, path, text, fault)?;
+    Err(Failure::Reported)
+}
+
+fn save(rt: &HostRuntime, path: &str, file: &[u8]) -> Result<(), Failure> {
+    fs::write(rt, path, file).map_err(Failure::Unsaved)?;
+    print_compiled(rt, file.len())?;
+    Ok(())
+}
+
+fn compile_text(rt: &HostRuntime, chart: &str, out: &str, text: &[u8]) -> Result<(), Failure> {
+    let mut buffer = vec![in rt.alloc(); 0u8; LONGEST_FILE]?;
+    let mut compiler = Compiler::new(rt.alloc())?;
+    let answer = compiler.compile(text, &mut buffer);
+    drop(compiler);
+    match answer {
+        Ok(length) => save(rt, out, &buffer[..length]),
+        Err(e) => refuse(rt, chart, text, Fault::from(e)),
+    }
+}
+
 pub fn run(rt: &HostRuntime, chart: &str, out: &str) -> Result<(), Failure> {
     if chart == out {
         return Err(Failure::OverChart);
     }
     let text = read_file(rt, chart)?;
-    let mut compiler = Compiler::new(rt.alloc())?;
-    let mut buffer = vec![in rt.alloc(); 0u8; LONGEST_FILE]?;
-    match compiler.compile(&text, &mut buffer) {
-        Ok(length) => {
-            fs::write(rt, out, &buffer[..length]).map_err(Failure::Unsaved)?;
-            print_compiled(rt, length)?;
-            Ok(())
-        }
-        Err(e) => {
-            let fault = Fault::from(e);
-            println!(rt; "refused {fault}")?;
-            report(rt, chart, &text, fault)?;
-            Err(Failure::Reported)
-        }
-    }
+    compile_text(rt, chart, out, &text)
 }

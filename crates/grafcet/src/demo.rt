@@ -1,16 +1,17 @@
 //! `grafcet` alone: a chart text is compiled, its code file is loaded and listed, frames are scanned, and wrong texts
 //! and damaged files are refused.
-use crate::cause::cause_of;
 use crate::compiling::{LONGEST_FILE, print_compiled};
-use crate::damage::{Damage, try_damaged};
-use crate::example::{FRAMES, TEXT, TURNS, WRONG};
+use crate::example::{FRAMES, TEXT, TURNS, WRONG, print_text};
 use crate::failure::Failure;
-use crate::listing::{print_loaded, print_words};
-use crate::showing::show_scans;
+use crate::showing_campaigns::show_campaigns;
 use codefile::program::Program;
 use compile::compiler::Compiler;
+use damages::damage::{Damage, try_damaged};
 use faults::Fault;
+use showing::listing::{print_loaded, print_program};
+use showing::scans::show_scans;
 use std::io;
+use telling::cause::cause_of;
 
 // Six of the damaged variants of docs/code-file.md.
 const DAMAGES: [(&str, Damage); 6] = [
@@ -21,14 +22,6 @@ const DAMAGES: [(&str, Damage); 6] = [
     ("an unlawful word", Damage::Byte(44, 1)),
     ("an unclosed bracket", Damage::Byte(59, 10)),
 ];
-
-// A text, indented.
-fn print_text(rt: &HostRuntime, text: &str) -> io::Result<()> {
-    for line in text.lines() {
-        println!(rt; "    {line}")?;
-    }
-    Ok(())
-}
 
 // The fault of what was tried, or that it was accepted.
 fn print_answer(rt: &HostRuntime, fault: Option<Fault>) -> io::Result<()> {
@@ -41,22 +34,41 @@ fn print_answer(rt: &HostRuntime, fault: Option<Fault>) -> io::Result<()> {
     }
 }
 
+fn try_text(
+    rt: &HostRuntime,
+    compiler: &mut Compiler,
+    buffer: &mut [u8],
+    text: &str,
+) -> io::Result<()> {
+    println!(rt; "    {text:?}")?;
+    let fault = compiler.compile(text.as_bytes(), buffer).err();
+    print_answer(rt, fault.map(Fault::from))
+}
+
 fn try_texts(rt: &HostRuntime, compiler: &mut Compiler, buffer: &mut [u8]) -> io::Result<()> {
     println!(rt; "\nTexts that go wrong, compiled into the same buffer:")?;
-    for text in WRONG {
-        println!(rt; "    {text:?}")?;
-        let fault = compiler.compile(text.as_bytes(), buffer).err();
-        print_answer(rt, fault.map(Fault::from))?;
+    for text in &WRONG {
+        try_text(rt, compiler, buffer, text)?;
     }
+    Ok(())
+}
+
+fn try_damage(
+    rt: &HostRuntime,
+    program: &mut Program,
+    file: &[u8],
+    damage: Damage,
+) -> Result<(), Failure> {
+    let fault = try_damaged(rt.alloc(), program, file, damage)?;
+    print_answer(rt, fault.map(Fault::from))?;
     Ok(())
 }
 
 fn try_damages(rt: &HostRuntime, program: &mut Program, file: &[u8]) -> Result<(), Failure> {
     println!(rt; "\nDamaged copies of the code file, loaded into the same program:")?;
-    for (name, damage) in DAMAGES {
+    for &(name, damage) in &DAMAGES {
         println!(rt; "    {name}: {damage}")?;
-        let fault = try_damaged(rt.alloc(), program, file, damage)?;
-        print_answer(rt, fault.map(Fault::from))?;
+        try_damage(rt, program, file, damage)?;
     }
     println!(rt; "\nWhat the program holds after them:")?;
     print_loaded(rt, program)?;
@@ -81,8 +93,7 @@ fn show_program(rt: &HostRuntime, program: &Program, length: usize) -> io::Resul
     println!(rt; "\nCompiled to a code file:")?;
     print_compiled(rt, length)?;
     println!(rt; "\nThe code file, loaded into a program:")?;
-    print_loaded(rt, program)?;
-    print_words(rt, program)?;
+    print_program(rt, program)?;
     println!(rt; "\nScans of the program, each delivered:")?;
     show_scans(rt, program, &FRAMES)
 }
@@ -101,11 +112,19 @@ fn go_through(
     try_turns(rt, compiler, buffer, program)
 }
 
+// Makes what the task takes.
+fn set_out(rt: &HostRuntime) -> Result<(), Failure> {
+    let mut buffer = vec![in rt.alloc(); 0u8; LONGEST_FILE]?;
+    let mut program = Program::new(rt.alloc())?;
+    let mut compiler = Compiler::new(rt.alloc())?;
+    let outcome = go_through(rt, &mut compiler, &mut buffer, &mut program);
+    drop(compiler);
+    outcome
+}
+
 pub fn run(rt: &HostRuntime) -> Result<(), Failure> {
     println!(rt; "The chart:")?;
     print_text(rt, TEXT)?;
-    let mut compiler = Compiler::new(rt.alloc())?;
-    let mut program = Program::new(rt.alloc())?;
-    let mut buffer = vec![in rt.alloc(); 0u8; LONGEST_FILE]?;
-    go_through(rt, &mut compiler, &mut buffer, &mut program)
+    set_out(rt)?;
+    show_campaigns(rt)
 }

@@ -1,4 +1,5 @@
 //! The two-step chart of docs/chart.md, and texts that go wrong.
+use std::io;
 
 pub const TEXT: &str = "step 0 initial
 step 1
@@ -28,3 +29,11 @@ pub const WRONG: [&str; 7] = [
     "step 0 initial\nstep 0",
     "step 0 initial\nhold 1 Q0",
 ];
+
+/// A text, indented.
+pub fn print_text(rt: &HostRuntime, text: &str) -> io::Result<()> {
+    for line in text.lines() {
+        println!(rt; "    {line}")?;
+    }
+    Ok(())
+}

@@ -3,12 +3,12 @@ ghost use Rattle.std.specs.Prelude.{◌≡◌};
 ghost use Rattle.grafcet.specs.declared.failure.Failure.{Failure};
 ghost use Rattle.faults.specs.declared.Fault.{Fault};
 
-use crate::cause::cause_of;
 use faults::{CodeFault, Fault};
 use std::alloc::AllocError;
 use std::{fmt, io};
+use telling::cause::cause_of;
 
-#[derive(Debug, Drop)]
+#[derive(Drop)]
 pub enum Failure {
     /// The arguments cannot be read.
     Arguments(io::Error),
@@ -29,25 +29,49 @@ pub enum Failure {
     OutOfMemory,
 }
 
+const USAGE: &str = "grafcet
+       grafcet compile CHART OUT
+       grafcet load FILE
+       grafcet scan CODE FRAME..
+       grafcet campaign CHART IMAGE CALLS";
+
+impl Failure {
+    fn words(&self) -> &'static str {
+        match self {
+            Failure::Arguments(_) => "the arguments cannot be read",
+            Failure::Usage => USAGE,
+            Failure::Unreadable(_) => "cannot be read",
+            Failure::Refused(fault) => cause_of(*fault),
+            Failure::Reported => "refused",
+            Failure::OverChart => "the code file would take the place of the chart",
+            Failure::Unsaved(_) => "the code file cannot be written",
+            Failure::Unwritable(_) => "the output cannot be written",
+            Failure::OutOfMemory => "out of memory",
+        }
+    }
+
+    // The system's own reason, where there is one.
+    fn error(&self) -> Option<&io::Error> {
+        match self {
+            Failure::Arguments(e)
+            | Failure::Unreadable(e)
+            | Failure::Unsaved(e)
+            | Failure::Unwritable(e) => Some(e),
+            _ => None,
+        }
+    }
+}
+
 impl fmt::Display for Failure {
     fn fmt<W: fmt::Write>(&self, f: &mut fmt::Formatter<W>) -> fmt::Result {
-        match self {
-            Failure::Arguments(error) => write!(f, "the arguments cannot be read: {error}"),
-            Failure::Usage => write!(
-                f,
-                "grafcet\n       grafcet compile CHART OUT\n       grafcet load FILE\n       grafcet scan CODE FRAME.."
-            ),
-            Failure::Unreadable(error) => write!(f, "cannot be read: {error}"),
-            Failure::Refused(fault) => {
-                let place = fault.place();
-                let cause = cause_of(*fault);
-                write!(f, "byte {place}: {cause}")
-            }
-            Failure::Reported => write!(f, "refused"),
-            Failure::OverChart => write!(f, "the code file would take the place of the chart"),
-            Failure::Unsaved(error) => write!(f, "the code file cannot be written: {error}"),
-            Failure::Unwritable(error) => write!(f, "the output cannot be written: {error}"),
-            Failure::OutOfMemory => write!(f, "out of memory"),
+        if let Failure::Refused(fault) = self {
+            let place = fault.place();
+            write!(f, "byte {place}: ")?;
+        }
+        f.write_str(self.words())?;
+        match self.error() {
+            Some(e) => write!(f, ": {e}"),
+            None => Ok(()),
         }
     }
 }

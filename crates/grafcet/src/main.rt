@@ -1,57 +1,22 @@
 //! The program `grafcet`, see docs/program.md.
 #![tactic(auto)]
 
-ghost use Rattle.std.specs.Prelude.{◌≡◌, map, string_bytes};
-ghost use Rattle.grafcet.specs.Commands.{Asks};
+ghost use Rattle.std.specs.Prelude.{◌≡◌};
 
-mod cause;
+mod campaigning;
 mod compiling;
-mod damage;
 mod demo;
 mod example;
-mod excerpt;
 mod failure;
 mod files;
-mod listing;
 mod load;
-mod position;
 mod scanning;
-mod showing;
+mod showing_campaigns;
 
+use commands::command::{Command, command_of};
 use failure::Failure;
 use std::env;
 use std::process::ExitCode;
-
-/// What the arguments ask for.
-#[derive(Clone, Copy, PartialEq, Eq, Debug)]
-enum Command<'a> {
-    Demo,
-    /// The chart in a file, and the file that its code goes to.
-    Compile { chart: &'a str, out: &'a str },
-    Load(&'a str),
-    /// The frames that a code file is scanned with.
-    Scan { code: &'a str, frames: &'a [String] },
-}
-
-// The first argument is the program's own name.
-#[tactic(auto, using(crate::proofs::Texts::texts))]
-fn command_of(args: &[String]) -> Option<Command<'_>>
-    ensures { Asks (map string_bytes args.now) result }
-{
-    match args {
-        [] | [_] => Some(Command::Demo),
-        [_, word, chart, out] if word.as_str() == "compile" => Some(Command::Compile {
-            chart: chart.as_str(),
-            out: out.as_str(),
-        }),
-        [_, word, path] if word.as_str() == "load" => Some(Command::Load(path.as_str())),
-        [_, word, code, frames @ ..] if word.as_str() == "scan" => Some(Command::Scan {
-            code: code.as_str(),
-            frames,
-        }),
-        _ => None,
-    }
-}
 
 // Tells a failure on standard error, unless it is told already, and hands it on.
 fn told(rt: &HostRuntime, subject: &str, res: Result<(), Failure>) -> Result<(), Failure>
@@ -79,6 +44,13 @@ fn perform(rt: &HostRuntime, args: &[String]) -> Result<(), Failure> {
         }
         Some(Command::Load(path)) => told(rt, path, load::run(rt, path)),
         Some(Command::Scan { code, frames }) => told(rt, code, scanning::run(rt, code, frames)),
+        Some(
+            Command::Campaign {
+                chart,
+                image,
+                calls,
+            },
+        ) => told(rt, chart, campaigning::run(rt, chart, image, calls)),
         None => told(rt, "usage", Err(Failure::Usage)),
     }
 }

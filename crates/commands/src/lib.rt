@@ -1,0 +1,4 @@
+//! What the arguments of the program ask for.
+#![tactic(auto)]
+
+pub mod command;

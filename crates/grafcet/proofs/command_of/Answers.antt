@@ -1,6 +1,0 @@
-use Rattle.std.proofs.Common.{arith}
-use Rattle.grafcet.proofs.Texts.{texts, texts_behind}
-use Rattle.grafcet.proofs.command_of.Goals as goal
-
-pub returns-in-len3-up : goal.returns-in-len3-up
-returns-in-len3-up c = (grind (arith, texts), grind (arith, texts), grind (arith, texts), texts_behind c.args.args.now 3)

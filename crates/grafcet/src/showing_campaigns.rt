@@ -1,0 +1,110 @@
+//! Campaigns of two charts.
+use crate::campaigning::{UNWRITTEN, print_log};
+use crate::example::{TEXT, print_text};
+use crate::failure::Failure;
+use callers::carriages::drive;
+use controller::controller::Controller;
+use image::Image;
+use image::carriage::Carriage;
+use image::frame_list::FrameList;
+use plain::calls::Call;
+use running::runner::Runner;
+use showing::scans::Named;
+use std::io;
+
+// The frames 0, 1, 2 and 3.
+const TRACE: &[u8; 32] = b"\0\0\0\0\0\0\0\0\x01\0\0\0\0\0\0\0\x02\0\0\0\0\0\0\0\x03\0\0\0\0\0\0\0";
+
+// A whole scan, and then the next frame.
+const ROUND: [Call; 4] = [Call::Sample, Call::Work, Call::Deliver, Call::Advance];
+
+// The shuttle of docs/images.md.
+const SHUTTLE: &str = "step 0 initial
+step 1
+trans 0 from 0 to 1 when I1
+trans 1 from 1 to 0 when I0
+hold 0 Q0
+hold 1 Q1
+";
+
+// The scans that docs/images.md shows of it.
+const SHOWN: [u32; 7] = [1, 2, 100, 101, 102, 200, 201];
+
+fn show_trace(rt: &HostRuntime, runner: &mut Runner) -> Result<(), Failure> {
+    println!(rt; "\nA campaign of the first chart, over a trace of the frames 0, 1, 2 and 3:")?;
+    let mut calls = [Call::Advance; 16];
+    for (k, call) in calls.iter_mut().enumerate() {
+        *call = ROUND[k % 4];
+    }
+    let mut log = [UNWRITTEN; 16];
+    let mut list = FrameList::new(TRACE).unwrap();
+    runner
+        .run_calls(TEXT.as_bytes(), &mut list, &calls, &mut log)
+        .map_err(Failure::Refused)?;
+    print_log(rt, "    ", &calls, &log)?;
+    Ok(())
+}
+
+// A scan of the carriage, and where the carriage was.
+fn show_scan(
+    rt: &HostRuntime,
+    scan: u32,
+    position: u8,
+    inputs: u64,
+    outputs: u64,
+    active: u64,
+) -> io::Result<()> {
+    let inputs = Named {
+        letter: 'I',
+        frame: inputs,
+    };
+    let outputs = Named {
+        letter: 'Q',
+        frame: outputs,
+    };
+    let active = Named {
+        letter: 'X',
+        frame: active,
+    };
+    println!(rt;
+        "    scan {scan}: position {position}, inputs {inputs}, outputs {outputs}, active {active}"
+    )
+}
+
+// To the other end and back, scan by scan.
+fn drive_to_and_fro(
+    rt: &HostRuntime,
+    controller: &mut Controller,
+    carriage: &mut Carriage,
+) -> Result<(), Failure> {
+    for scan in 1..=202 {
+        let position = carriage.position();
+        let inputs = carriage.sample().unwrap();
+        drive(controller, carriage).map_err(Failure::Refused)?;
+        if SHOWN.contains(&scan) {
+            let active = controller.state().active;
+            show_scan(rt, scan, position, inputs, carriage.outputs(), active)?;
+        }
+    }
+    Ok(())
+}
+
+fn show_carriage(rt: &HostRuntime, runner: &mut Runner) -> Result<(), Failure> {
+    println!(rt; "\nA chart that drives a carriage to and fro:")?;
+    print_text(rt, SHUTTLE)?;
+    runner.load(SHUTTLE.as_bytes()).map_err(Failure::Refused)?;
+    drive_to_and_fro(rt, &mut runner.controller, &mut Carriage::new())
+}
+
+fn show_both(rt: &HostRuntime, runner: &mut Runner) -> Result<(), Failure> {
+    show_trace(rt, runner)?;
+    show_carriage(rt, runner)
+}
+
+/// A campaign over a trace, and scans of a carriage.
+pub fn show_campaigns(rt: &HostRuntime) -> Result<(), Failure> {
+    let mut runner = Runner::new(rt.alloc())?;
+    let outcome = show_both(rt, &mut runner);
+    drop(runner);
+    outcome
+}

@@ -1,0 +1,2 @@
+pub mod Excerpts
+pub mod Positions
