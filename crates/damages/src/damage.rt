@@ -1,5 +1,5 @@
 //! What can be damaged, and the copies.
-ghost use Rattle.std.specs.Prelude.{◌≡◌, IfOk};
+ghost use Rattle.std.specs.Prelude.{◌≡◌, IfOk, OnErr};
 ghost use Rattle.damages.specs.Damages.{damaged_by, Tried};
 
 use codefile::program::Program;
@@ -47,7 +47,8 @@ pub fn try_damaged(
     file: &[u8],
     damage: Damage,
 ) -> Result<Option<FileFault>, AllocError>
-    ensures { IfOk result (λ o. Tried (damaged_by damage file.now) program.old program.new o) }
+    ensures tried { IfOk result (λ o. Tried (damaged_by damage file.now) program.old program.new o) }
+    ensures no_memory { OnErr result (program.new ≡ program.old) }
 {
     let copy = damaged(heap, file, damage)?;
     Ok(program.load(&copy).err())

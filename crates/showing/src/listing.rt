@@ -23,6 +23,7 @@ fn place_of(start: usize, index: usize) -> usize
 }
 
 // A part with its offset and length in the file, and a line for each word; answers where the part ends.
+#[tactic(auto, using(crate::proofs::Lawful::has_instruction))]
 fn print_part(rt: &impl Print, program: &Program, part: Part, start: usize) -> io::Result<usize> {
     let words = program.words(part);
     let end = place_of(start, words.len());
