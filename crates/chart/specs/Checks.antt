@@ -82,7 +82,7 @@ abbrev pub chart_faults : List Number → List Tree → List Tree → List Chart
 chart_faults declared before [] = []
 chart_faults declared before (t ∷ ts) = faults_in declared before t ++ chart_faults declared (t ∷ before) ts
 
--- ---- the first fault: the least place, and at one place the smaller number
+-- ---- the first fault: by place, and on a tie by number
 abbrev pub precedes : ChartFault → ChartFault → Bool
 precedes f g =
     nat_lt (chart_place f) (chart_place g) ||

@@ -1,5 +1,5 @@
--- The law of the first chart fault: of all faults 7 to 10 that a text has, the one at the least place is answered, and at
--- one place the one with the smaller number; 11 where there is none. Assumes nothing.
+-- The law of the first chart fault: of all faults 7 to 10 that a text has, the one at the least place is answered, and on
+-- a tie the one with the smaller number; 11 where there is none. Assumes nothing.
 use Rattle.std.specs.Prelude.{◌≡◌, ℕ, ◌<◌, ◌≤◌, true, ◌⊎◌, List, [], length, Ok, Err, Result, ◌≢◌, slice_index_or}
 use Rattle.faults.specs.Numbers.{chart_number, chart_place}
 use Rattle.faults.specs.declared.TextFault.{TextFault}

@@ -15,7 +15,7 @@ use Rattle.codefile.specs.Parts.{Stretch, chain, judged}
 abbrev pub Layout : Type 0
 Layout = Parts ℕ
 
--- four bytes, lowest first
+-- four bytes as a number, the least significant first
 abbrev pub le32 : ℕ → ℕ → ℕ → ℕ → ℕ
 le32 a b c d = a + b * 256 + c * 65536 + d * 16777216
 
@@ -47,7 +47,7 @@ end p = p.offset + p.length
 abbrev pub follows : Pair → Pair → Bool
 follows before p = p.offset == end before && p.length % 4 == 0
 
--- the first section whose pair breaks a rule, in a file of this size
+-- the first section with a wrong entry in the directory of a file of this size
 abbrev pub broken_pair : Directory → ℕ → Option Section
 broken_pair d size =
     if not (d.initial.offset == 36 && d.initial.length == 8) then Some Initial

@@ -1,5 +1,5 @@
--- The law of the first fault: of all faults that the words of a file have, the one at the least place is reported, and at
--- one place the one with the smaller number. Assumes nothing.
+-- The law of the first fault: of all faults that the words of a file have, the one at the least place is reported, and on
+-- a tie the one with the smaller number. Assumes nothing.
 use Rattle.std.specs.Prelude.{◌≡◌, ℕ, ◌+◌, ◌*◌, ◌<◌, ◌≤◌, true, false, if◌then◌else◌, ◌⊎◌, List, [], ◌∷◌, length}
 use Rattle.std.specs.Prelude.{take, Ok, Err, Result, slice_index}
 use Rattle.faults.specs.Numbers.{file_number, file_place}

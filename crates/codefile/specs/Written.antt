@@ -10,7 +10,7 @@ use Rattle.codefile.specs.declared.write.WriteFault.{WriteFault}
 use Rattle.codefile.specs.declared.write.WriteFault.TheVariants.{TooManyWords, BufferTooShort}
 use Rattle.codefile.specs.File.{Code, code_of}
 
--- ---- numbers as bytes, lowest first
+-- ---- numbers as bytes, the least significant first
 abbrev pub bytes32 : ℕ → List ℕ
 bytes32 n = n % 256 ∷ (n / 256 % 256 ∷ (n / 65536 % 256 ∷ (n / 16777216 % 256 ∷ [])))
 

@@ -7,7 +7,7 @@ use crate::program::Program;
 use words::instruction::Part;
 
 impl Program {
-    /// The steps that are active first, bit n for step n.
+    /// The frame of the initial steps.
     pub fn initial(&self) -> u64
         ensures { result ≡ (code_in self.now).initial }
     {

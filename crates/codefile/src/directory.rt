@@ -21,7 +21,7 @@ pub struct Directory {
     pub hold: Pair,
 }
 
-// Four bytes, lowest first.
+// Four bytes as a number, the least significant first.
 pub(crate) fn number(a: u8, b: u8, c: u8, d: u8) -> u32
     ensures { result ≡ le32 a b c d }
 {
@@ -68,7 +68,7 @@ fn does_follow(before: Pair, pair: Pair) -> bool
         && pair.length % 4 == 0
 }
 
-// The first section whose pair breaks a rule, in a file of this size.
+// The first section with a wrong entry in the directory of a file of this size.
 fn broken_pair(d: Directory, size: usize) -> Option<Section>
     ensures { result ≡ broken_pair d size }
 {

@@ -25,7 +25,7 @@ fn fill<const N: usize>(words: &mut Reserved<u32, N>, bytes: &[u8])
 }
 
 impl Program {
-    /// A program with no words and no steps, and with room for those of any code file.
+    /// An empty program, with room for the words of any code file.
     pub fn new(heap: Global) -> Result<Program, AllocError>
         ensures { IfOk result (λ p. code_in p ≡ no_code) }
     {

@@ -7,7 +7,7 @@ ghost use Rattle.codefile.specs.Written.{written, answered, buffer_after, LoadsB
 use crate::directory::{Directory, Pair};
 use words::list::MOST_WORDS;
 
-/// What a code file is to hold: the steps that are active first, bit n for step n, and the words of each part.
+/// What a code file is to hold: the frame of the initial steps, and the words of each part.
 #[derive(Clone, Copy, PartialEq, Eq, Debug)]
 pub struct Contents<'a> {
     pub initial: u64,
@@ -16,7 +16,7 @@ pub struct Contents<'a> {
     pub hold: &'a [u32],
 }
 
-/// Why a code file was not written. A buffer that is too short comes with the length needed.
+/// Why a code file was not written. With a buffer that is too small comes the length of the file.
 #[derive(Clone, Copy, PartialEq, Eq, Debug)]
 pub enum WriteFault {
     TooManyWords,
@@ -31,7 +31,7 @@ fn put_bytes(buffer: &mut [u8], at: usize, bytes: &[u8])
     buffer[at..at + bytes.len()].copy_from_slice(bytes);
 }
 
-// Four bytes, lowest first.
+// A number as four bytes, the least significant first.
 fn put_number(buffer: &mut [u8], at: usize, n: u32)
     requires { at + 4 ≤ length buffer.old }
     ensures { buffer.new ≡ over at (bytes32 n) buffer.old }
@@ -146,8 +146,8 @@ impl<'a> Fitting<'a> {
     }
 }
 
-/// Writes a code file at the beginning of the buffer and answers its length; the rest of the buffer stays as it was.
-/// Refused, it leaves all of the buffer.
+/// Writes a code file over the first bytes of the buffer and says how many they are. The bytes behind them keep their
+/// values, and after a refusal all bytes do.
 pub fn write(contents: Contents<'_>, buffer: &mut [u8]) -> Result<usize, WriteFault>
     ensures answer { result ≡ answered (written (code_for contents.entry) (length buffer.old)) }
     ensures buffer { buffer.new ≡ buffer_after (written (code_for contents.entry) (length buffer.old)) buffer.old }

@@ -9,8 +9,8 @@ use codefile::program::Program;
 use faults::CodeFault;
 
 impl Compiler {
-    /// Writes the code file of a chart text at the beginning of the buffer, answers its length and leaves the buffer's
-    /// rest; or names the first fault and leaves all of the buffer.
+    /// Writes the code file of a chart text over the first bytes of the buffer and says how many they are, with all others
+    /// as they were; or names the first fault, with all bytes as they were.
     pub fn compile(&mut self, text: &[u8], buffer: &mut [u8]) -> Result<usize, CodeFault>
         ensures answer { result ≡ answer_of (compiled text.now (length buffer.old)) }
         ensures buffer { buffer.new ≡ buffer_with (compiled text.now (length buffer.old)) buffer.old }

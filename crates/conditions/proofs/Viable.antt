@@ -1,4 +1,4 @@
--- What the scan has gone along is spelled by its state, and can be gone on with to a whole condition. Assumes nothing.
+-- What the scan has gone along is spelled by its state, and is a viable prefix. Assumes nothing.
 use Rattle.std.proofs.Common.{◌≡◌, ℕ, ◌+◌, ◌≤◌, Bool, true, false, cond, eqb, leb, List, [], ◌∷◌, ◌++◌, map, sym, refl, ap, ◌∙◌, subst, ⊎_elim, append_assoc, append-nil, arith, true-eqb}
 use mathlib.Core.List.{map-append}
 use Rattle.std.proofs.lemmas.Bool.Decides.{nat_tests}
@@ -144,7 +144,7 @@ fits_edge d false n h = h
 plain_spelled : (h : Brackets) (s : Terms) (p : Factors) → spelled (primary h s p false) ≡ spelled (wants h s p)
 plain_spelled h s p = ap (λ l. spell_brackets h ++ (spell_terms s ++ l)) (append-nil (spell_factors p))
 
--- each state can be gone on with: by a last primary, and by closing what is open
+-- each state can be completed: by a last primary, and by closing what is open
 abbrev closing : Brackets → List TokenKind
 closing none = []
 closing (inside h s p b) = Close ∷ closing h
@@ -433,7 +433,7 @@ no_limit q (too_large p) e = let z : ◌≡◌ {A = ℕ} 0 1 = cc in omega arith
 whole_stops : (us rest : List Token) (e : ℕ) (c : Cond) → scan us start e ≡ scan rest (sign none (others c) (last c)) e → kinds rest ≡ [] → scan us start e ≡ stops (join (others c) (last c)) []
 whole_stops us rest e c p k = p ∙ ap (λ l. scan l (sign none (others c) (last c)) e) (no_kinds rest k)
 
--- tokens that the scan finds unexpected spell no condition, limits aside
+-- tokens that the scan finds unexpected spell no condition of the grammar
 unspelled : (us : List Token) (e q : ℕ) → scan us start e ≡ fails (Unexpected q) → Spells (kinds us) → ⊥
 unspelled us e q r c =
     ⊎_elim (λ g. never (sym (whole_stops us g.rest e c.tree g.passes g.kept) ∙ r)) (λ l. no_limit q l.limit (same (sym l.is ∙ r))) (wide_cond c.tree none e us [] (c.spelled ∙ sym (append-nil _)))
@@ -498,7 +498,7 @@ why_of before (t ∷ us) x e f g r =
     by_cause before t us f (subst (λ l. Limits f l t.kind) g.spelt (at_fault t x f g.fits r).1)
     (λ q is. (not_whole before x e g (unended x t.place e t.kind f r), not_onward before x e q t g (r ∙ ap (λ f. fault f) is)))
 
--- a fault of the scan stands where no condition goes on
+-- a fault of the scan stands at the first token that no condition has there
 pub refused : (ts : List Token) (e : ℕ) (f : TextFault) → condition_of ts e ≡ fails f → Stuck ts e f
 refused ts e f h =
     let x = walk ts start e f (tt, tt, tt) h in

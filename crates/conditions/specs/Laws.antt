@@ -24,19 +24,19 @@ pub record Begins (c : Cond) (ts rest : List Token) : Type 0 where
   pub undotted : Lacks Dot rest
   pub unadded : Lacks Plus rest
 
--- these kinds can be gone on with to a condition that fits
+-- a viable prefix: some condition within the limits begins with these kinds
 pub record Viable (ks : List TokenKind) : Type 0 where
   pub tree : Cond
   pub more : List TokenKind
   pub spelled : ks ++ more ≡ spell tree
   pub fits : Fits 0 tree
 
--- these kinds spell a condition, limits aside
+-- these kinds spell a condition of the grammar, whatever the limits say of it
 pub record Spells (ks : List TokenKind) : Type 0 where
   pub tree : Cond
   pub spelled : ks ≡ spell tree
 
--- these kinds can be gone on with to a condition, limits aside
+-- some condition of the grammar begins with these kinds, whatever the limits say of it
 pub record Possible (ks : List TokenKind) : Type 0 where
   pub tree : Cond
   pub more : List TokenKind
@@ -69,18 +69,18 @@ opened ks = tally 1 0 ks
 abbrev pub closed : List TokenKind → ℕ
 closed ks = tally 0 1 ks
 
--- fault 4: no condition, limits aside, ends behind the kinds, or goes on with the next token
+-- fault 4: the grammar has no condition that ends behind the kinds, and none that continues with the next token
 abbrev pub Unfit : List TokenKind → List Token → Type 0
 Unfit ks [] = Spells ks → ⊥
 Unfit ks (t ∷ us) = (Spells ks → ⊥) × (Possible (ks ++ t.kind ∷ []) → ⊥)
 
--- fault 5: the next kind opens a bracket, seven are open, and limits aside it could stand there
+-- fault 5: the next kind opens a bracket inside seven others, where the grammar has one
 pub record Eighth (ks : List TokenKind) (k : TokenKind) : Type 0 where
   pub opens : k ≡ Open
   pub seven : opened ks ≡ closed ks + 7
   pub otherwise : Possible (ks ++ k ∷ [])
 
--- fault 6: the next kind is an operand with a number above 63, and limits aside it could stand there
+-- fault 6: the next kind is an operand, where the grammar has one, but its number is too large
 pub record Large (ks : List TokenKind) (k : TokenKind) : Type 0 where
   pub letter : Letter
   pub number : ℕ
@@ -102,7 +102,7 @@ Why before rest (Unexpected p) = Unfit (kinds before) rest
 Why before rest (EighthBracket p) = AtNext rest (λ k. Eighth (kinds before) k)
 Why before rest (NumberTooLarge p) = AtNext rest (λ k. Large (kinds before) k)
 
--- the fault's place is that of the first token with which no condition that fits goes on
+-- the fault's place is that of the first token that does not extend a viable prefix
 pub record Stuck (ts : List Token) (e : ℕ) (f : TextFault) : Type 0 where
   pub before : List Token
   pub rest : List Token

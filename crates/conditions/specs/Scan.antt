@@ -1,4 +1,4 @@
--- The condition that the tokens begin with, or the fault where none goes on. Assumes nothing.
+-- The condition that the tokens begin with, or the fault of the first token that fits none. Assumes nothing.
 use Rattle.std.specs.Prelude.{ℕ, ◌+◌, Bool, true, false, cond, List, [], ◌∷◌, ◌==◌, nat_le}
 use Rattle.faults.specs.declared.TextFault.{TextFault}
 use Rattle.faults.specs.declared.TextFault.TheVariants.{Unexpected, EighthBracket, NumberTooLarge}
@@ -53,7 +53,7 @@ pub data State : Type 0 where
   edge : Brackets → Terms → Factors → Bool → Bool → State
   sign : Brackets → Terms → Term → State
 
--- the condition goes on; it ends before this token; or the token is at fault
+-- the condition continues; it ends before this token; or the token is at fault
 pub data Step : Type 0 where
   goes : State → Step
   ends : Cond → Step
@@ -160,7 +160,7 @@ pub data Scan : Type 0 where
   stops : Cond → List Token → Scan
   fails : TextFault → Scan
 
--- what a step gives: k goes on from a state
+-- what a step gives: k takes over from a state
 abbrev pub follow : Step → (State → Scan) → List Token → Scan
 follow (goes x) k here = k x
 follow (ends c) k here = stops c here

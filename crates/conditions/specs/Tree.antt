@@ -77,7 +77,7 @@ loaded true a = LoadNot (operand_of a)
 abbrev pub enclosed : Instruction → List Instruction → List Instruction
 enclosed opening inner = opening ∷ (inner ++ (instruction.Close ∷ []))
 
--- the words of a condition: each later term in OR( ), each later factor in AND( ), NOT behind a negated bracket
+-- the words of a condition: terms joined by OR( ), factors by AND( ), and a negated bracket negated at its end
 abbrev mutual
   pub words : Cond → List Instruction
   words (term t) = words_term t

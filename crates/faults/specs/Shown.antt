@@ -1,4 +1,4 @@
--- What is printed of a fault: its layer, its number and its place. Assumes nothing.
+-- The text of a fault: layer, number and place, with blanks between them. Assumes nothing.
 use Rattle.std.specs.Prelude.{ℕ, List, ◌++◌, codes, decimal}
 use Rattle.faults.specs.declared.Layer.{Layer}
 use Rattle.faults.specs.declared.Layer.TheVariants.{Text, Chart, Code, File, Trace, Controller, Image}

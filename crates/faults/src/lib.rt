@@ -1,4 +1,4 @@
-//! Faults: why something handed in, or a call in the wrong state, is refused.
+//! Faults: the reasons for which an input or a call is refused.
 //!
 //! Each layer has an enum of its own causes. A layer's fault holds the fault of the layer below, and `?` carries it up
 //! by `From`. `Fault` is what a caller meets at the top: its layer, number and place are those of the cause.
@@ -13,7 +13,7 @@ ghost use Rattle.faults.specs.declared.Fault.TheVariants.{Controller as OfContro
 mod numbers;
 pub mod show;
 
-/// Where a fault arises.
+/// The stage that finds a fault.
 #[derive(Clone, Copy, PartialEq, Eq, Debug)]
 pub enum Layer {
     Text,
@@ -25,20 +25,20 @@ pub enum Layer {
     Image,
 }
 
-/// The chart text is refused; the place is a byte offset.
+/// A chart text is refused. Places count its bytes from 0.
 #[derive(Clone, Copy, PartialEq, Eq, Debug)]
 pub enum TextFault {
-    /// 1: more than 32,768 bytes.
+    /// 1: the text is longer than 32,768 bytes.
     TooLong,
-    /// 2: no token begins here.
+    /// 2: these bytes are the start of no token.
     NoToken(usize),
-    /// 3: more than four digits.
+    /// 3: five digits or more in a row.
     TooManyDigits(usize),
-    /// 4: no line goes on with this token or line end.
+    /// 4: the grammar has no line with this token, or this end, here.
     Unexpected(usize),
-    /// 5: the eighth bracket open at once.
+    /// 5: an opening bracket inside seven others.
     EighthBracket(usize),
-    /// 6: a number above 63.
+    /// 6: a number that exceeds 63.
     NumberTooLarge(usize),
 }
 
@@ -46,15 +46,15 @@ pub enum TextFault {
 #[derive(Clone, Copy, PartialEq, Eq, Debug)]
 pub enum ChartFault {
     Text(TextFault),
-    /// 7: a step or transition number that an earlier line declares.
+    /// 7: a second declaration of a step or of a transition.
     DeclaredTwice(usize),
-    /// 8: a step without a step line.
+    /// 8: a reference to a step that is declared nowhere.
     UndeclaredStep(usize),
-    /// 9: a step that stands in the list already.
+    /// 9: a repetition in a list of steps.
     ListedTwice(usize),
-    /// 10: an output that the step holds already.
+    /// 10: a second hold of one output by one step.
     HeldTwice(usize),
-    /// 11: no initial step; the place is the text's length.
+    /// 11: none of the steps is initial; placed at the length of the text.
     NoInitialStep(usize),
 }
 
@@ -62,9 +62,9 @@ pub enum ChartFault {
 #[derive(Clone, Copy, PartialEq, Eq, Debug)]
 pub enum CodeFault {
     Chart(ChartFault),
-    /// 12: more than 4,096 words; the place is the text's length.
+    /// 12: the code exceeds 4,096 words; placed at the length of the text.
     TooManyWords(usize),
-    /// 13: the buffer is too short; the place is the length needed.
+    /// 13: the output buffer is too small; placed at the length of the file.
     BufferTooShort(usize),
 }
 
@@ -77,24 +77,24 @@ pub enum Section {
     Hold,
 }
 
-/// A code file is refused; the place is a byte offset.
+/// A code file is refused. Places count its bytes from 0.
 #[derive(Clone, Copy, PartialEq, Eq, Debug)]
 pub enum FileFault {
-    /// 14: fewer than 36 bytes.
+    /// 14: the file is smaller than a head of 36 bytes.
     TooShort,
-    /// 15: the first four bytes are not the mark.
+    /// 15: the file does not begin with the mark.
     NoMark,
-    /// 16: the section's pair breaks a rule.
+    /// 16: the directory has a wrong entry for this section.
     BadPair(Section),
-    /// 17: more than 4,096 words.
+    /// 17: the three parts exceed 4,096 words in all.
     TooManyWords,
-    /// 18: a word that is not lawful in its part.
+    /// 18: a word that its part does not admit.
     UnlawfulWord(usize),
-    /// 19: a bracket closed but not open, the eighteenth open, or one open at a part's end.
+    /// 19: a closing bracket without its opening one, an eighteenth inside 17, or one that its part never closes.
     Unbalanced(usize),
 }
 
-/// 20: a trace of more than 65,536 bytes, or no whole number of frames.
+/// 20: the trace exceeds 65,536 bytes, or its last frame is incomplete.
 #[derive(Clone, Copy, PartialEq, Eq, Debug)]
 pub enum TraceFault {
     BadLength,
@@ -103,15 +103,15 @@ pub enum TraceFault {
 /// The controller's phase does not allow the call.
 #[derive(Clone, Copy, PartialEq, Eq, Debug)]
 pub enum ControllerFault {
-    /// 21: a scan is open.
+    /// 21: the call has to wait for the end of a scan.
     ScanOpen,
-    /// 22: the controller is halted.
+    /// 22: after a halt nothing is sampled.
     Halted,
-    /// 23: the phase is not sampled, for work, or not worked, for deliver and abandon.
+    /// 23: a work in a phase other than sampled; a deliver or an abandon in one other than worked.
     WrongPhase,
 }
 
-/// 24: the image is not live.
+/// 24: a sample or a delivery while the image is not live.
 #[derive(Clone, Copy, PartialEq, Eq, Debug)]
 pub enum ImageFault {
     NotLive,

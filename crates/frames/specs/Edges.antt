@@ -3,7 +3,7 @@ use Rattle.std.specs.Prelude.{ℕ, not, ◌&&◌, Some, None, Option}
 use Rattle.frames.specs.Bits.{bit, pack}
 use Rattle.frames.specs.declared.edges.Edges.{Edges}
 
--- the bits that are on in one frame and off in the other
+-- the bits that are set in one frame and clear in the other
 unfoldable pub only_in : ℕ → ℕ → ℕ
 only_in frame other = pack 64 (λ n. bit n frame && not (bit n other))
 
@@ -11,7 +11,7 @@ only_in frame other = pack 64 (λ n. bit n frame && not (bit n other))
 abbrev pub no_edges : Edges
 no_edges = record { rises = 0; falls = 0 }
 
--- on before and off now is a fall, off before and on now a rise; with no frame before there is neither
+-- a rise leads from off to on, a fall from on to off; without a previous frame there is neither
 abbrev pub edges_between : Option ℕ → ℕ → Edges
 edges_between None frame = no_edges
 edges_between (Some previous) frame = record { rises = only_in frame previous; falls = only_in previous frame }

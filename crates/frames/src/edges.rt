@@ -9,7 +9,7 @@ pub struct Edges {
     pub falls: u64,
 }
 
-// The bits that are on in one frame and off in the other.
+// The bits that are set in one frame and clear in the other.
 #[tactic(auto, using(crate::proofs::BitLaws::only_in_packs))]
 fn on_only(frame: u64, other: u64) -> u64
     ensures { result ≡ only_in frame other }
@@ -25,7 +25,7 @@ impl Edges {
         Edges { rises: 0, falls: 0 }
     }
 
-    /// On before and off now is a fall, off before and on now a rise; with no frame before there is neither.
+    /// The inputs that changed between the two frames, to off or to on; without a previous frame none did.
     pub fn between(previous: Option<u64>, frame: u64) -> Edges
         ensures { result ≡ edges_between previous frame }
     {

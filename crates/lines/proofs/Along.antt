@@ -1,4 +1,4 @@
--- What the scan has gone along is spelled by its state, and can be gone on with to a whole line. Assumes nothing.
+-- What the scan has gone along is spelled by its state, and is a viable prefix. Assumes nothing.
 use Rattle.std.proofs.Common.{◌≡◌, ℕ, ◌+◌, ◌≤◌, Bool, true, false, cond, leb, ◌⊎◌, List, [], ◌∷◌, ◌++◌, map, sym, refl, ap, ◌∙◌, subst, inl, inr, append_assoc, append-nil, arith}
 use mathlib.Core.List.{map-append}
 use Rattle.std.proofs.lemmas.Bool.Decides.{nat_tests}
@@ -30,7 +30,7 @@ use Rattle.lines.specs.Laws.{Uses, Viable, Possible, Eighth, Large}
 use Rattle.lines.proofs.Reading.{equal, refs_append}
 use Rattle.lines.proofs.Whole.{prefix_refs, prefix_tally}
 
--- what u spells so far, limits aside, by what the line still wants
+-- what u spells so far by the grammar alone, told by what the line still wants
 abbrev pub Spelt : List Token → State → Type 0
 Spelt u start = u ≡ []
 Spelt u (number k) = (n : Number) → Spelt (u ++ digits n ∷ []) (k n)
@@ -87,7 +87,7 @@ trans_spelled n fs ts c us u v w ks e m h =
 guard_possible : (n : Number) (fs ts : Numbers) (us : List Number) (u v w : List Token) (ks : List TokenKind) → u ≡ v ++ w → Matches v (prefix n fs ts) → kinds w ≡ ks → condition-laws.Possible ks → Possible u
 guard_possible n fs ts us u v w ks e m h p = record { tree = line.trans n fs ts p.tree us; more = map token p.more; spelled = trans_spelled n fs ts p.tree us u v w p.more e m (ap (λ l. l ++ p.more) h ∙ p.spelled) }
 
--- each state can be gone on with, limits aside
+-- each state can be completed, by the grammar alone
 less_possible : (u v : List Token) → Possible (u ++ v) → Possible u
 less_possible u v x = record { tree = x.tree; more = v ++ x.more; spelled = subst (λ l. Matches l (spell x.tree)) (append_assoc u v x.more) x.spelled }
 

@@ -1,4 +1,4 @@
--- Where the scan fails no line goes on. Assumes nothing.
+-- Where the scan fails, the tokens so far are no viable prefix. Assumes nothing.
 use Rattle.std.proofs.Common.{◌≡◌, ℕ, List, [], ◌∷◌, ◌++◌, sym, refl, ap, ◌∙◌, subst, inl, ⊎_elim, append_assoc, append-nil, arith}
 use Rattle.faults.specs.declared.TextFault.{TextFault}
 use Rattle.faults.specs.declared.TextFault.TheVariants.{TooLong, NoToken, TooManyDigits, Unexpected, EighthBracket, NumberTooLarge}
@@ -79,7 +79,7 @@ place_of : (rest : List Token) (x : State) (e : ℕ) (u : List Token) (f : TextF
 place_of [] x e u f g b r = ap text_place (ended_as u e f (step x e LineEnd) (advance x u (record { kind = LineEnd; place = e }) g b) r)
 place_of (t ∷ ts) x e u f g b r = (subst (λ s. Next u t s) r (advance x u t g b)).0
 
--- tokens that the scan finds unexpected spell no line, limits aside
+-- tokens that the scan finds unexpected spell no line of the grammar
 no_limit : (q : ℕ) {f : TextFault} → Limit f → f ≡ Unexpected q → ⊥
 no_limit q (too_deep p) e = let z : ◌≡◌ {A = ℕ} 0 1 = cc in omega arith
 no_limit q (too_large p) e = let z : ◌≡◌ {A = ℕ} 0 1 = cc in omega arith

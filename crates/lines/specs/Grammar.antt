@@ -11,7 +11,7 @@ use Rattle.lines.specs.declared.shape.Number.{Number}
 use Rattle.lines.specs.declared.shape.Action.{Action}
 use Rattle.lines.specs.declared.shape.Action.TheVariants as action
 
--- num {, num}, the last one outermost
+-- numbers with commas between them, the last one outermost
 pub data Numbers : Type 0 where
   one : Number → Numbers
   more : Numbers → Number → Numbers

@@ -7,7 +7,7 @@ use Rattle.conditions.specs.Tree.{Cond, words, enclosed}
 use Rattle.lines.specs.declared.shape.Number.{Number}
 use Rattle.lines.specs.Grammar.{Tree, Numbers, items, empty, step, trans, hold, enter}
 
--- LD X of the first step, AND X of each other
+-- the first step is loaded, the others are joined by and
 abbrev pub step_test : Bool → Number → Instruction
 step_test true n = Load (operand.Step n.value)
 step_test false n = And (operand.Step n.value)

@@ -40,36 +40,37 @@ Only ts rest = (l m : Tree) (us : List Token) → Begins l ts rest → Begins m 
 abbrev pub Nowhere : List Token → Type 0
 Nowhere ts = (l : Tree) (us : List Token) → Begins l ts us → ⊥
 
--- these tokens can be gone on with to a line that fits
+-- a viable prefix: some line within the limits begins with these tokens
 pub record Viable (ts : List Token) : Type 0 where
   pub tree : Tree
   pub more : List Token
   pub spelled : Matches (ts ++ more) (spell tree)
   pub fits : FitsLine tree
 
--- these tokens spell a line, limits aside
+-- these tokens spell a line of the grammar, whatever the limits say of it
 pub record Spells (ts : List Token) : Type 0 where
   pub tree : Tree
   pub spelled : Matches ts (spell tree)
 
--- these tokens can be gone on with to a line, limits aside
+-- some line of the grammar begins with these tokens, whatever the limits say of it
 pub record Possible (ts : List Token) : Type 0 where
   pub tree : Tree
   pub more : List Token
   pub spelled : Matches (ts ++ more) (spell tree)
 
--- fault 4: limits aside, no line goes on with the next token, or ends here if that is a line end or there is none
+-- fault 4: the grammar has no line that continues with the next token; none that ends here, where a line end or no
+-- token is next
 abbrev pub Unfit : List Token → List Token → Type 0
 Unfit before [] = Spells before → ⊥
 Unfit before (t ∷ us) = (Possible (before ++ t ∷ []) → ⊥) × (t.kind ≡ LineEnd → Spells before → ⊥)
 
--- fault 5: the next token opens a bracket, seven are open, and limits aside it could stand there
+-- fault 5: the next token opens a bracket inside seven others, where the grammar has one
 pub record Eighth (before : List Token) (t : Token) : Type 0 where
   pub opens : t.kind ≡ Open
   pub seven : opened (kinds before) ≡ closed (kinds before) + 7
   pub otherwise : Possible (before ++ t ∷ [])
 
--- fault 6: the next token is or has a number above 63, and limits aside it could stand there
+-- fault 6: the next token is or has a number, where the grammar has one, but it is too large
 pub record Large (before : List Token) (t : Token) : Type 0 where
   pub number : ℕ
   pub named : (t.kind ≡ Digits number) ⊎ ((l : Letter) × (t.kind ≡ Operand l number))
@@ -90,7 +91,7 @@ Why before rest (Unexpected p) = Unfit before rest
 Why before rest (EighthBracket p) = AtNext rest (λ t. Eighth before t)
 Why before rest (NumberTooLarge p) = AtNext rest (λ t. Large before t)
 
--- the fault's place is that of the first token or end with which no line that fits goes on
+-- the fault's place is that of the first token, or of the end, that does not extend a viable prefix
 pub record Stuck (ts : List Token) (e : ℕ) (f : TextFault) : Type 0 where
   pub before : List Token
   pub rest : List Token

@@ -45,7 +45,7 @@ numbers_in (t ∷ ts) = counted t.place t.kind ++ numbers_in ts
 abbrev pub going : State → Rest → Scan
 going x left = scan left.tokens.now x left.end
 
--- the scan goes on to rest, whatever it goes on with
+-- the scan reads on to rest, for every continuation
 pub record ReadsNumber (from : Rest) (n : Number) (rest : Rest) : Type 0 where
   pub passes : (k : Number → State) → going (number k) from ≡ going (k n) rest
   pub split : from.tokens.now ≡ digits n ∷ rest.tokens.now

@@ -1,4 +1,4 @@
--- The line that the tokens begin with, or the fault where none goes on. Assumes nothing.
+-- The line that the tokens begin with, or the fault of the first token that fits none. Assumes nothing.
 use Rattle.std.specs.Prelude.{ℕ, Bool, true, false, cond, List, [], ◌∷◌, ◌++◌, ◌==◌, nat_le}
 use Rattle.text.specs.declared.token.Word.{Word}
 use Rattle.text.specs.declared.token.Word.TheVariants.{Step, Initial, Trans, From, To, When, Hold, Enter, Set, Reset}
@@ -29,7 +29,7 @@ pub data State : Type 0 where
   guard : Number → Numbers → Numbers → List Number → condition.State → State
   end : Tree → State
 
--- the line goes on, this token ends it, or the token is at fault
+-- the line continues, this token ends it, or the token is at fault
 pub data Move : Type 0 where
   goes : State → Move
   done : Tree → Move

@@ -1,4 +1,4 @@
--- The earliest entry of a list that equals a wanted value. Assumes nothing.
+-- The least place of a value in a list. Assumes nothing.
 use Rattle.std.specs.Prelude.{◌≡◌, ℕ, ◌<◌, List, length, Some, None, Option, ◌≢◌, slice_index_or}
 
 -- no entry below the place n is the wanted one

@@ -1,11 +1,11 @@
-//! One search for the earliest equal entry, over every kind whose sameness is equality.
+//! A generic linear search: the least index of a value in a slice.
 #![tactic(auto)]
 
 ghost use Rattle.std.specs.Prelude.{◌≡◌, true};
 ghost use Rattle.search.specs.Earliest.{Earliest};
 ghost use Rattle.std.proofs.Common.{rules};
 
-/// A kind whose `==` is true of equal values, and of no others.
+/// A type whose `==` holds of equal values alone.
 pub trait Same: Eq {
     ghost equal: { (x y : Self) → Self.eq x y ≡ true → x ≡ y };
 }

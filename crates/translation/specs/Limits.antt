@@ -16,7 +16,7 @@ pub record Holds (ls : List Tree) (c : Contents) : Type 0 where
   pub enter : c.enter.now ≡ map word_of (enter_part ls)
   pub hold : c.hold.now ≡ map word_of (hold_part ls)
 
--- all that the lines come to, exactly if no part has more than 4,096 words
+-- all that the lines come to, exactly if each part has at most 4,096 words
 abbrev pub Offers : List Tree → Option Contents → Type 0
 Offers ls (Some c) = Holds ls c × (longest_part ls ≤ 4096)
 Offers ls None = 4096 < longest_part ls

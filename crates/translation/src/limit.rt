@@ -19,7 +19,7 @@ fn all_of(list: &WordList) -> Option<&[u32]>
 }
 
 impl Draft {
-    /// What the draft of a text comes to, or None if one of its parts alone has more than 4,096 words.
+    /// What the draft of a text comes to, or None if one of its parts alone exceeds 4,096 words.
     pub fn contents(&self) -> Option<Contents<'_>>
         ensures { (lines : List Tree) → Drafted lines self.now → Offers lines result }
     {

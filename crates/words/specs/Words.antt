@@ -1,4 +1,4 @@
--- Instruction words: operator times 2^24, plus area times 2^20, plus number times 2^14. Assumes nothing.
+-- Instruction words: the operator from bit 24 on, the area in bits 20 to 23, the number in bits 14 to 19. Assumes nothing.
 use Rattle.std.specs.Prelude.{ℕ, ◌+◌, ◌*◌, ◌/◌, ◌%◌, Bool, true, false, not, ◌&&◌, ◌||◌, Some, None, Option, ◌==◌}
 use Rattle.std.specs.Prelude.{nat_le, nat_lt, if◌then◌else◌}
 use Rattle.words.specs.declared.instruction.Part.{Part}
@@ -100,7 +100,7 @@ number_in (Hold n) = n
 abbrev pub word_of : Instruction → ℕ
 word_of i = packed (operator_in i) (area_in i) (number_in i)
 
--- ---- where an instruction may stand: a hold part reads and sets held outputs, the others set all but these
+-- ---- where an instruction may stand: a hold part sets held outputs alone, the others set all but these
 abbrev pub is_hold : Part → Bool
 is_hold part.Clear = false
 is_hold part.Enter = false
@@ -122,7 +122,7 @@ stands p (Set t) = not (is_hold p)
 stands p (Reset t) = not (is_hold p)
 stands p (Hold n) = is_hold p
 
--- it may stand in the part, and its number is 0 to 63
+-- the part admits it, and its number is at most 63
 abbrev pub admitted : Part → Instruction → Bool
 admitted p i = stands p i && nat_lt (number_in i) 64
 
@@ -149,7 +149,7 @@ pairs p o a =
     else if o == 13 then not (is_hold p) && (a == 2 || a == 3)
     else false
 
--- with no area, and in the area that is always on, the number is 0
+-- without an area, and in that of the constant, the number is 0
 abbrev pub numbers : ℕ → ℕ → Bool
 numbers a n = if a == 0 || a == 6 then n == 0 else true
 

@@ -185,7 +185,7 @@ impl Instruction {
     }
 }
 
-/// The word of an instruction, or None where it may not stand in the part.
+/// The word of an instruction, or None where the part does not admit it with its number.
 pub fn encode(part: Part, instruction: Instruction) -> Option<u32>
     ensures word { result ≡ encoded part instruction }
     ensures read_back { (w : ℕ) → result ≡ Some w → decoded part w ≡ Some instruction }
@@ -208,7 +208,7 @@ pub fn instruction(word: u32) -> Instruction
     Fields::of(word).instruction()
 }
 
-/// The one instruction of a word, or None where the word is not lawful in the part.
+/// The instruction that a word stands for, or None where the word is not lawful in the part.
 pub fn decode(part: Part, word: u32) -> Option<Instruction>
     ensures instruction { result ≡ decoded part word }
     ensures written_back { (i : AnInstruction) → result ≡ Some i → encoded part i ≡ Some word }

@@ -17,15 +17,15 @@ pub enum Operand {
     Step(u8),
     /// A stored output.
     Output(u8),
-    /// An input that rises.
+    /// A rising edge of an input.
     Rise(u8),
-    /// An input that falls.
+    /// A falling edge of an input.
     Fall(u8),
-    /// Always on.
+    /// The constant on.
     Always,
-    /// A transition that is cleared in this evolution.
+    /// Whether a transition clears now.
     Cleared(u8),
-    /// A step as it was before the evolution.
+    /// A step as the evolution found it.
     Before(u8),
 }
 
@@ -51,7 +51,7 @@ pub enum Instruction {
     OrOpen,
     Close,
     Not,
-    /// Writes the result to a cleared transition.
+    /// Stores the result as whether a transition clears.
     Store(u8),
     Set(Target),
     Reset(Target),

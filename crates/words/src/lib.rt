@@ -1,4 +1,4 @@
-//! Instruction words: each instruction has one 32-bit word, and each lawful word is one instruction.
+//! Instruction words of 32 bits: encoding and decoding, which are inverse to each other.
 #![tactic(auto)]
 
 pub mod codec;
