@@ -47,7 +47,7 @@ abbrev pub turn_fault : {A : Type 0} → Result A ControllerFault → Option Con
 turn_fault (Ok x) = None
 turn_fault (Err f) = Some f
 
--- ---- the phase and the call together: what the call goes on with
+-- ---- what a call goes on with in each phase
 abbrev pub GoesOn : Turn → Call → Phase → Type 0
 GoesOn turn.Sample c p = (c ≡ call.Sample) × (p ≡ Idle)
 GoesOn (turn.Work frame) c p = (c ≡ call.Work) × (p ≡ Sampled frame)
@@ -80,7 +80,7 @@ due b (Sampled frame) = 0
 due b (Worked frame o) = delivered_frame b frame o
 due b Halted = 0
 
--- a stable scan is delivered: its state is the state, and its frame the previous one; after any other, halted
+-- what a delivery leaves: of a stable scan its state, and its frame for the next edges; of any other a halt
 abbrev pub landed : Verdict → State → ℕ → Controller → Controller
 landed (Stable m) s frame c = record { program = c.program; state = s; previous = Some frame; phase = Idle }
 landed (Circling j k) s frame c = in_phase Halted c

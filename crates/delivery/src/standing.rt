@@ -41,7 +41,7 @@ fn delivered(program: &Program, outcome: Outcome, inputs: u64) -> u64
 }
 
 impl Standing {
-    /// The start state, and no previous frame.
+    /// Where a program begins: in its start state, before any frame.
     pub fn start(program: &Program) -> Standing
         ensures words { result ≡ record { state = start program.now; previous = NoFrame } }
         ensures chart { (c : Chart) → CompiledFrom c program.now →

@@ -121,7 +121,7 @@ initial_steps c = pack 64 (λ n. member n c.initial)
 unfoldable pub start : Chart → State
 start c = record { active = initial_steps c; stored = entered (λ n. bit n (initial_steps c)) c.entries 0 }
 
--- an output is on as a stored one, or held by an active step
+-- an output is on in the frame if the state has it stored, or if one of its active steps holds it
 abbrev pub output_on : Chart → State → ℕ → Bool
 output_on c s q = bit q s.stored || list_any (λ h. is_active h.step s && q == h.output) c.holdings
 

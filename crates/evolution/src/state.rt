@@ -3,7 +3,7 @@ ghost use Rattle.std.proofs.Common.{rules};
 
 use search::Same;
 
-/// The active steps, and the stored outputs that are on.
+/// A state as two frames: the steps that are active, and the outputs that are stored.
 #[derive(Clone, Copy, PartialEq, Eq, Debug)]
 pub struct State {
     pub active: u64,

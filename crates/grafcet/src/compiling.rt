@@ -1,4 +1,4 @@
-//! `grafcet compile CHART OUT`: compiles a chart text to a code file.
+//! `grafcet compile CHART OUT`: from a chart text to a code file.
 ghost use Rattle.std.specs.Prelude.{◌≡◌, ℕ, ◌+◌, ◌*◌};
 
 use crate::failure::Failure;

@@ -5,7 +5,7 @@ use Rattle.faults.specs.declared.TraceFault.{TraceFault}
 use Rattle.faults.specs.declared.TraceFault.TheVariants.{BadLength}
 use Rattle.image.specs.Meaning.{Meaning, Touch, sampling, delivering, advancing}
 
--- the number that some bytes spell, the lowest byte first
+-- the number that some bytes spell, the least significant first
 abbrev pub number_of : List ℕ → ℕ
 number_of [] = 0
 number_of (b ∷ bytes) = b + 256 * number_of bytes
@@ -31,12 +31,12 @@ pub record Playback : Type 0 where
 abbrev pub is_left : Playback → Bool
 is_left list = nat_lt list.position (length list.frames)
 
--- live while a frame is left; past the last one the inputs are 0
+-- live while a frame is left; behind the trace no input is on
 abbrev pub shown : Playback → Meaning
 shown list =
     record { live = is_left list; inputs = slice_index_or list.frames list.position 0; outputs = list.outputs }
 
--- an advance moves one frame on, but not beyond the last; a delivery while a frame is left gives the outputs
+-- an advance counts up to the number of frames; a delivery while a frame is left gives the outputs
 abbrev pub played : Touch → Playback → Playback
 played sampling list = list
 played (delivering frame) list = record list { outputs = if is_left list then frame else list.outputs }
@@ -47,7 +47,7 @@ abbrev pub advanced : ℕ → Playback → Playback
 advanced zero list = list
 advanced (suc n) list = played advancing (advanced n list)
 
--- a trace has at most 65,536 bytes, and a multiple of 8
+-- a trace is at most 65,536 bytes long, and consists of whole frames
 abbrev pub is_trace_length : ℕ → Bool
 is_trace_length n = nat_le n 65536 && n % 8 == 0
 

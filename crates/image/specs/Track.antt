@@ -8,7 +8,7 @@ pub record Track : Type 0 where
   pub position : ℕ
   pub outputs : ℕ
 
--- I0 is on exactly at position 0, I1 exactly at position 100, and no other input is on
+-- I0 tells the lower end and I1 the upper one; no other input is ever on
 abbrev pub sensors : ℕ → ℕ
 sensors position = pack 64 (λ n. (n == 0 && position == 0) || (n == 1 && position == 100))
 

@@ -30,7 +30,7 @@ fn is_playable(size: usize) -> bool
     size <= 65536 && size % 8 == 0
 }
 
-// The frame that eight bytes are, lowest byte first.
+// The frame that eight bytes are, the least significant first.
 #[tactic(auto, using(crate::proofs::Playing::frame_sum))]
 fn frame_from(bytes: &[u8; 8]) -> u64
     ensures { result ≡ frame_of bytes.now }

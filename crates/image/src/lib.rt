@@ -22,7 +22,7 @@ pub trait Image {
         ensures kept { meaning self.new ≡ meaning self.old }
         ensures rule { becomes self.old sampling self.new };
 
-    /// Makes the frame the outputs, if the image is live.
+    /// The frame is the outputs from now on, if the image is live.
     fn deliver(&mut self, frame: u64) -> Result<(), ImageFault>
         ensures answer { result ≡ delivered (meaning self.old) }
         ensures shown { meaning self.new ≡ showing frame (meaning self.old) }

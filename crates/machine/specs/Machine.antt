@@ -22,7 +22,7 @@ pub record Machine : Type 0 where
   pub stack : List Bracket
   pub memory : Memory
 
--- a part begins with the result off and no bracket open
+-- before the first instruction of a part: the result is off, and there is no bracket yet
 abbrev pub begin : Memory → Machine
 begin m = record { result = false; stack = []; memory = m }
 

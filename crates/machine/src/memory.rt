@@ -5,15 +5,15 @@
 pub struct Memory {
     /// X: the active steps.
     pub active: u64,
-    /// Q: the stored outputs that are on.
+    /// Q: the stored outputs.
     pub stored: u64,
-    /// P: the steps that were active before the evolution.
+    /// P: the active steps of the state that the evolution began from.
     pub before: u64,
-    /// T: the cleared transitions.
+    /// T: the transitions that clear.
     pub cleared: u64,
     /// H: the held outputs.
     pub held: u64,
-    /// I: the inputs that are on.
+    /// I: the inputs.
     pub inputs: u64,
     pub rises: u64,
     pub falls: u64,

@@ -26,7 +26,7 @@ impl Memory {
         }
     }
 
-    // Writes the result to a cleared transition.
+    // Stores the result as whether a transition clears.
     pub(crate) fn store(&mut self, on: bool, number: u8)
         requires { number < 64 }
         ensures { self.new ≡ with_cleared (written_if on number self.old.cleared) self.old }

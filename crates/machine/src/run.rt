@@ -9,7 +9,7 @@ use words::codec::instruction;
 use words::instruction::Part;
 
 impl Memory {
-    /// Runs the words of a part of a program. What the program's loading has tested is not tested again.
+    /// Runs the words of a part of a program. No word needs a test: the program's invariant stands for it.
     #[tactic(auto, unfolding(crate::specs::Machine::after))]
     pub fn run(&mut self, program: &Program, part: Part)
         ensures { self.new ≡ after part program.now self.old }

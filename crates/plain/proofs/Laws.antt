@@ -110,7 +110,7 @@ stays_known b p v = record {
   advances = λ s k. k;
 }
 
--- the delivery of a scan that is not stable halts, with all outputs off
+-- an unstable delivery halts, with every output off
 record AllOff (q : Plain) : Type 0 where
   halted : is_halted q.stage ≡ true
   outputs : q.outputs ≡ 0
@@ -184,7 +184,7 @@ module _ {I : Type 0} (meaning : I → Meaning) (becomes : I → Touch → I →
       let rest = counted_from m.plain ms a.1 in
       omega arith
 
-  -- each accepted sample is delivered or abandoned, or is the scan that is open
+  -- the account of scans: samples open them, deliveries and abandons close them, and one may still be open
   pub counted : (out : ℕ) (ms : List (Moment I)) → Alike meaning becomes b (begun b.begins out) ms → (n : ℕ) → Counted (take n ms) (last_of (begun b.begins out) (take n ms)).stage
   counted out ms a n = let all = counted_from (begun b.begins out) (take n ms) (alike_take n (begun b.begins out) ms a) in omega arith
 
@@ -213,7 +213,7 @@ module _ {I : Type 0} (meaning : I → Meaning) (becomes : I → Touch → I →
     off_unstable m.plain (last_verdict v m.answer) ms (holds_at (stays_known b p v) a.0 k) a.1,
   )
 
-  -- the delivery of a scan that is not stable switches all outputs off, and they stay off
+  -- an unstable delivery switches every output off, up to the delivery that follows a restart
   pub off : (out : ℕ) (ms : List (Moment I)) → Alike meaning becomes b (begun b.begins out) ms → (v : Verdict) → OffUnstable meaning v ms
   off out ms a v = off_unstable (begun b.begins out) v ms tt a
 

@@ -41,7 +41,7 @@ brought shows Overlong s = 0
 abbrev pub delivered_frame : Behaviour → ℕ → Outcome → ℕ
 delivered_frame b frame o = brought (b.shows frame) o.verdict o.state
 
--- after a delivery: a stable state is the state, and its frame the previous one; any other verdict halts
+-- what a delivery leaves: of a stable scan its state, and its frame for the next edges; of any other a halt
 abbrev pub landed : Verdict → State → ℕ → ℕ → Plain → Plain
 landed (Stable m) s frame outputs p = record { stage = idle; state = s; previous = Some frame; outputs = outputs }
 landed (Circling j k) s frame outputs p = record { stage = halted; state = p.state; previous = p.previous; outputs = outputs }
@@ -77,6 +77,6 @@ abbrev pub Judged : Option Fault → (Answer → Plain → Type 0) → Plain →
 Judged (Some f) Accepted p answer q = (answer ≡ Refused f) × (q ≡ p)
 Judged None Accepted p answer q = Accepted answer q
 
--- the plain chart p is given a call, and whether the image is live and its inputs; it answers, and then is q
+-- p answers a call that finds the image live or not, with these inputs, and becomes q
 abbrev pub Answers : Behaviour → Call → Bool → ℕ → Plain → Answer → Plain → Type 0
 Answers b call live inputs p answer q = Judged (refusal call p.stage live) (Takes b call inputs p) p answer q

@@ -74,7 +74,7 @@ number_of kind (m ∷ ms) = (if kind m then 1 else 0) + number_of kind ms
 abbrev pub open_scans : Stage → ℕ
 open_scans s = if scan_open s then 1 else 0
 
--- each accepted sample is delivered or abandoned, or is the scan that is open
+-- the account of scans: samples open them, deliveries and abandons close them, and one may still be open
 abbrev pub Counted : {I : Type 0} → List (Moment I) → Stage → Type 0
 Counted ms s =
     number_of accepted_sample ms ≡ number_of accepted_delivery ms + number_of accepted_abandonment ms + open_scans s
@@ -106,7 +106,7 @@ OffHalted meaning (m ∷ ms) =
     × (accepted_restart m ≡ true → OffRestarted meaning ms)
     × (accepted_restart m ≡ false → OffHalted meaning ms)
 
--- the delivery of a scan whose verdict, the one answered last, is not stable switches all outputs off
+-- an unstable delivery, which is one after a last verdict other than stable, switches every output off
 abbrev pub OffUnstable : {I : Type 0} → (I → Meaning) → Verdict → List (Moment I) → Type 0
 OffUnstable meaning v [] = Unit {0}
 OffUnstable meaning v (m ∷ ms) =

@@ -70,8 +70,8 @@ Touched becomes b Abandon s i j = j ≡ i
 Touched becomes b Restart s i j = j ≡ i
 Touched becomes b Advance s i j = becomes i advancing j
 
--- a call beside the plain chart p: the answer is its answer, and the only one; then the outputs at the image and the active
--- steps are its own
+-- a call beside the plain chart p: the answer is its answer, and the only one; then the image has its outputs, and its
+-- steps are the active ones
 pub record Beside {I : Type 0} (meaning : I → Meaning) (becomes : I → Touch → I → Type 0) (b : Behaviour) (p : Plain) (m : Moment I) : Type 0 where
   pub answered : Answers b m.call (meaning m.before).live (meaning m.before).inputs p m.answer m.plain
   pub only :

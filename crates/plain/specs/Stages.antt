@@ -40,7 +40,7 @@ scan_open (sampled frame) = true
 scan_open (worked frame o) = true
 scan_open halted = false
 
--- 21: a scan is open; 22: halted; 23: no scan to work, or none to deliver or abandon
+-- 21 while a scan is open, 22 after a halt, 23 where there is no scan to work, or none that is worked
 abbrev pub out_of_turn : Call → Stage → Option ControllerFault
 out_of_turn Sample s = if scan_open s then Some ScanOpen else (if is_halted s then Some Halted else None)
 out_of_turn Work s = if is_sampled s then None else Some WrongPhase
@@ -57,7 +57,7 @@ wants_live_image Abandon = false
 wants_live_image Restart = false
 wants_live_image Advance = false
 
--- 21 to 23 go before 24: the image is not live
+-- 24, of an image that is not live, comes behind 21 to 23
 abbrev pub first_of : Option ControllerFault → Bool → Option Fault
 first_of (Some f) dead = Some (Controller f)
 first_of None dead = if dead then Some (Image NotLive) else None

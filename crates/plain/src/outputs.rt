@@ -8,7 +8,7 @@ ghost use Rattle.plain.specs.Outputs.{outputs_after};
 use crate::calls::Answer;
 
 impl Answer {
-    /// The outputs after a call with this answer: those of the plain chart, if it had these before.
+    /// The outputs after a call with this answer, from those before it, as the plain chart has them.
     #[tactic(auto, using(crate::proofs::Telling::told))]
     pub fn outputs(self, before: u64) -> u64
         ensures value { result ≡ outputs_after self before }

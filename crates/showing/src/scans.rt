@@ -5,8 +5,8 @@ use frames::bits::is_on;
 use std::{fmt, io};
 use verdict::outcome::{Outcome, Verdict};
 
-// Scans the frames one after the other, each delivered, and tells what each comes to. A scan that is not stable is the
-// last one.
+// Scans the frames one after the other, each delivered, and tells what each comes to. The first unstable scan is the last
+// one.
 fn tell_scans<F: FnMut(u64, Row) -> io::Result<()>>(
     program: &Program,
     frames: &[u64],

@@ -106,7 +106,7 @@ fn a_load_when_halted(rt: HostRuntime) -> Result<(), Fail> {
     Ok(())
 }
 
-// A scan names no controller: the phase alone decides.
+// The scan of another controller is judged by the phase alone.
 fn hand_over(
     rt: &impl Abort,
     one: &mut Controller,

@@ -33,7 +33,7 @@ pub(crate) const NOT_LIVE: Answer = Answer::Refused(Fault::Image(ImageFault::Not
 
 pub(crate) const STABLE: Answer = Answer::Found(Verdict::Stable(1));
 
-/// A call, and what is to be written down of it.
+/// A call, and the entry that it should have in the log.
 #[derive(Clone, Copy, PartialEq, Eq, Debug)]
 pub(crate) struct Row {
     pub call: Call,

@@ -26,8 +26,8 @@ pub(crate) const fn expect(inputs: u64, verdict: Verdict, outputs: u64, active: 
     }
 }
 
-/// Scans the frames of the rows one after the other, from the start state on, and compares. After a scan that is not
-/// stable the next one goes on from the state and the frame before it.
+/// Scans the frames of the rows one after the other, from the start state on, and compares. After an unstable
+/// scan the next one goes on from the state and the frame before it.
 pub(crate) fn judge_scans(rt: &impl Abort, program: &Program, rows: &[Row]) -> Result<(), Fail> {
     let mut state = State::start(program);
     let mut previous = None;
@@ -77,7 +77,7 @@ fn push_transition(text: &mut Vec<u8>, from: u8, to: u8) -> Result<(), AllocErro
     text.extend_from_slice(b" when ")
 }
 
-/// Steps 0 to 63 in a chain: from 0 to 1 when I0 is on and does not rise, and always from each other one to the next.
+/// A chain of 64 steps: step 0 is left when I0 is on and does not rise, and every other step at once.
 pub(crate) fn chain(heap: Global) -> Result<Vec<u8>, AllocError> {
     let mut text = Vec::new(heap);
     text.extend_from_slice(b"step 0 initial")?;
@@ -94,7 +94,7 @@ pub(crate) fn chain(heap: Global) -> Result<Vec<u8>, AllocError> {
     Ok(text)
 }
 
-/// The chain with a transition more, always from 63 to 0.
+/// The chain closed to a ring, by a transition from its last step to its first that is always true.
 pub(crate) fn ring(heap: Global) -> Result<Vec<u8>, AllocError> {
     let mut text = chain(heap)?;
     push_transition(&mut text, 63, 0)?;

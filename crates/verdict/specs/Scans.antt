@@ -13,12 +13,12 @@ pub record Rules : Type 0 where
   pub evolved : Edges → State → State
   pub stable : State → Bool
 
--- the edges of the evolution from s(n): the frame's from s(0), and every edge false later
+-- the edges of the evolution from s(n): those of the frame if n is 0, and otherwise none
 abbrev pub edges_from : Edges → ℕ → Edges
 edges_from edges zero = edges
 edges_from edges (suc n) = no_edges
 
--- s(n): s(0) is the state before the frame, and each later one evolves from the one before
+-- s(n): n evolutions from s(0), the state that the frame finds
 abbrev pub states : Rules → Edges → State → ℕ → State
 states rules edges s zero = s
 states rules edges s (suc n) = rules.evolved (edges_from edges n) (states rules edges s n)

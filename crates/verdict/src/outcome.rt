@@ -7,7 +7,7 @@ pub enum Verdict {
     Stable(u8),
     /// No state is stable, and s(k) is the first that equals an earlier one, s(j): j, then k.
     Circling(u8, u8),
-    /// Of s1 to s64 none is stable, and no two are equal.
+    /// The states s1 to s64 are all different, and not one of them is stable.
     Overlong,
 }
 
