@@ -3,10 +3,12 @@ use Rattle.std.proofs.Common.{add-zero, add_assoc, drop}
 use Rattle.std.proofs.lemmas.List.{drop-drop, get_or-drop}
 use Rattle.codefile.specs.declared.directory.Pair.{Pair}
 use Rattle.codefile.specs.declared.directory.Directory.{Directory}
-use Rattle.std.proofs.Common.{◌≡◌, ℕ, ◌+◌, ◌<◌, ◌≤◌, List, length, take, Err, ap, sym, ◌∙◌, arith, if◌then◌else◌}
-use Rattle.std.proofs.lemmas.List.{get_or-take}
+use Rattle.std.proofs.Common.{◌≡◌, ℕ, ◌+◌, ◌<◌, ◌≤◌, List, length, take, Err, ap, sym, ◌∙◌, arith, if◌then◌else◌, nat_eq}
+use Rattle.std.proofs.lemmas.List.{get_or-take, take-take}
+use Rattle.std.specs.Cmp.Lexicographic.{pointwise}
 use Rattle.std.proofs.lemmas.Bool.{cond-false, le-ltb}
 use Rattle.faults.specs.declared.FileFault.TheVariants.{NoMark}
+use Rattle.codefile.specs.Format.{mark}
 use Rattle.codefile.specs.File.{le_at, pair_at, directory_of, marked, broken_pair, layout_in, layout_of}
 
 le_front : (bs : List ℕ) (i : ℕ) → i + 3 < 36 → le_at (take 36 bs) i ≡ le_at bs i
@@ -18,7 +20,7 @@ directory_front bs =
     rw (le_front bs 4 (omega arith), le_front bs 8 (omega arith), le_front bs 12 (omega arith), le_front bs 16 (omega arith), le_front bs 20 (omega arith), le_front bs 24 (omega arith), le_front bs 28 (omega arith), le_front bs 32 (omega arith))
 
 marked_front : (bs : List ℕ) → marked (take 36 bs) ≡ marked bs
-marked_front bs = rw (get_or-take 36 bs 0 0 (omega arith), get_or-take 36 bs 1 0 (omega arith), get_or-take 36 bs 2 0 (omega arith), get_or-take 36 bs 3 0 (omega arith))
+marked_front bs = ap (pointwise nat_eq mark) (take-take 4 36 bs (omega arith))
 
 pub head_reads : (bs hd : List ℕ) → 36 ≤ length bs → hd ≡ take 36 bs
     → layout_of bs ≡ (if marked hd then layout_in (directory_of hd) (broken_pair (directory_of hd) (length bs)) else Err NoMark)

@@ -1,6 +1,7 @@
 -- The code file, from its bytes alone. Assumes nothing.
 use Rattle.std.specs.Prelude.{◌≡◌, ℕ, ◌+◌, ◌*◌, ◌/◌, ◌%◌, ◌≤◌, Bool, false, if◌then◌else◌, not, ◌&&◌, List, [], ◌∷◌}
-use Rattle.std.specs.Prelude.{length, take, drop, Some, None, Ok, Err, Option, Result, ◌==◌, nat_lt, slice_index}
+use Rattle.std.specs.Prelude.{length, take, drop, Some, None, Ok, Err, Option, Result, ◌==◌, nat_eq, nat_lt, slice_index}
+use Rattle.std.specs.List.{starts_with}
 use Rattle.faults.specs.declared.Section.{Section}
 use Rattle.faults.specs.declared.Section.TheVariants.{Initial, Clear, Enter, Hold}
 use Rattle.faults.specs.declared.FileFault.{FileFault}
@@ -9,6 +10,7 @@ use Rattle.words.specs.declared.instruction.Part.TheVariants as part
 use Rattle.codefile.specs.declared.directory.Pair.{Pair}
 use Rattle.codefile.specs.declared.directory.Directory.{Directory}
 use Rattle.codefile.specs.declared.parts.Parts.{Parts}
+use Rattle.codefile.specs.Format.{mark}
 use Rattle.codefile.specs.Parts.{Stretch, chain, judged}
 
 -- how many bytes each part has
@@ -32,7 +34,7 @@ le_at bs i = le32 (slice_index bs i) (slice_index bs (i + 1)) (slice_index bs (i
 
 -- ---- the head: the mark, and the directory of four pairs
 abbrev pub marked : List ℕ → Bool
-marked bs = slice_index bs 0 == 83 && (slice_index bs 1 == 82 && (slice_index bs 2 == 73 && slice_index bs 3 == 49))
+marked bs = starts_with nat_eq bs mark
 
 abbrev pub pair_at : List ℕ → ℕ → Pair
 pair_at bs i = record { offset = le_at bs i; length = le_at bs (i + 4) }

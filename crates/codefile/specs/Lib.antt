@@ -1,3 +1,4 @@
+pub mod Format
 pub mod Parts
 pub mod File
 pub mod First

@@ -8,6 +8,7 @@ use Rattle.codefile.specs.declared.directory.Directory.{Directory}
 use Rattle.codefile.specs.declared.write.Contents.{Contents}
 use Rattle.codefile.specs.declared.write.WriteFault.{WriteFault}
 use Rattle.codefile.specs.declared.write.WriteFault.TheVariants.{TooManyWords, BufferTooShort}
+use Rattle.codefile.specs.Format.{mark}
 use Rattle.codefile.specs.File.{Code, code_of}
 
 -- ---- numbers as bytes, the least significant first
@@ -22,9 +23,6 @@ word_bytes [] = []
 word_bytes (w ∷ ws) = bytes32 w ++ word_bytes ws
 
 -- ---- the head: the mark, and the directory of four pairs
-abbrev pub mark : List ℕ
-mark = 83 ∷ (82 ∷ (73 ∷ (49 ∷ [])))
-
 abbrev pub pair_bytes : Pair → List ℕ
 pair_bytes p = bytes32 p.offset ++ bytes32 p.length
 

@@ -2,6 +2,7 @@
 ghost use Rattle.std.specs.Prelude.{◌≡◌, ◌+◌, ◌≤◌, length, drop, IfOk};
 ghost use Rattle.codefile.specs.File.{le32, pair_at, directory_of, follows, broken_pair, layout_of, Regular};
 
+use crate::format::MARK;
 use crate::parts::Parts;
 use faults::{FileFault, Section};
 use words::list::MOST_WORDS;
@@ -95,7 +96,7 @@ pub(crate) fn layout_of(bytes: &[u8]) -> Result<Parts<usize>, FileFault>
     let Some(head) = bytes.first_chunk::<36>() else {
         return Err(FileFault::TooShort);
     };
-    if !head.starts_with(b"SRI1") {
+    if !head.starts_with(MARK) {
         return Err(FileFault::NoMark);
     }
     let d = directory_of(head);

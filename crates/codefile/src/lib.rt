@@ -3,6 +3,7 @@
 
 mod contents;
 mod directory;
+pub mod format;
 mod headed;
 mod load;
 mod parts;

@@ -1,10 +1,11 @@
 //! Loading a code file into a program.
-ghost use Rattle.std.specs.Prelude.{◌≡◌, ◌*◌, ◌≤◌, length, IfOk, Ok};
+ghost use Rattle.std.specs.Prelude.{◌≡◌, ◌*◌, ◌≤◌, length, IfOk, OnOk, Ok};
 ghost use Rattle.codefile.specs.File.{words_of, checked, contents};
 ghost use Rattle.codefile.specs.First.{FirstFault};
 ghost use Rattle.codefile.specs.Loads.{Loads, code_in, no_code};
 
 use crate::directory::number;
+use crate::format::LONGEST_FILE;
 use crate::headed::Headed;
 use crate::program::Program;
 use faults::FileFault;
@@ -49,10 +50,12 @@ impl Program {
         self.initial = file.initial();
     }
 
-    /// Takes the program of a code file, or names the file's first fault and changes nothing.
+    /// Takes the program of a code file, or names the file's first fault and changes nothing. None that is longer than
+    /// `LONGEST_FILE` is accepted.
     pub fn load(&mut self, bytes: &[u8]) -> Result<(), FileFault>
         ensures loads { Loads bytes.now self.old self.new result }
         ensures first_fault { FirstFault bytes.now result }
+        ensures longest { OnOk result (length bytes.now ≤ LONGEST_FILE) }
     {
         let file = Headed::read(bytes)?;
         file.check_words()?;

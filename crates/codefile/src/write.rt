@@ -5,6 +5,7 @@ ghost use Rattle.codefile.specs.Written.{section_at, directory_for, file_of, wor
 ghost use Rattle.codefile.specs.Written.{written, answered, buffer_after, LoadsBack};
 
 use crate::directory::{Directory, Pair};
+use crate::format::MARK;
 use words::list::MOST_WORDS;
 
 /// What a code file is to hold: the frame of the initial steps, and the words of each part.
@@ -71,7 +72,7 @@ fn put_head(buffer: &mut [u8], d: Directory, initial: u64)
     requires { 44 ≤ length buffer.old }
     ensures { buffer.new ≡ over 0 (head_bytes d initial) buffer.old }
 {
-    put_bytes(buffer, 0, b"SRI1");
+    put_bytes(buffer, 0, MARK);
     put_directory(buffer, d);
     put_bytes(buffer, 36, &initial.to_le_bytes());
 }

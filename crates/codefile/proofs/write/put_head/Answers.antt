@@ -1,5 +1,6 @@
 use Rattle.std.proofs.Common.{◌++◌, refl, ap, ◌∙◌, arith}
-use Rattle.codefile.specs.Written.{mark, directory_bytes, bytes64, over}
+use Rattle.codefile.specs.Format.{mark}
+use Rattle.codefile.specs.Written.{directory_bytes, bytes64, over}
 use Rattle.codefile.proofs.Overwrites.{puts_more, eight_bytes}
 use Rattle.codefile.proofs.write.put_head.Goals as goal
 
