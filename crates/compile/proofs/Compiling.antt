@@ -1,11 +1,11 @@
 -- What compile answers, from its two steps. Assumes nothing.
-use Rattle.std.proofs.Common.{◌≡◌, ℕ, ◌≤◌, Bool, true, false, cond, ltb, List, length, take, IfOk, Ok, Err, Result, sym, refl, ap, ◌∙◌, subst, arith}
+use Rattle.std.proofs.Common.{◌≡◌, ℕ, ◌≤◌, Bool, true, false, cond, ltb, List, length, IfOk, Ok, Err, Result, sym, refl, ap, ◌∙◌, subst, arith}
 use Rattle.std.proofs.lemmas.Bool.{ltb-false}
 use Rattle.faults.specs.declared.TextFault.{TextFault}
 use Rattle.faults.specs.declared.ChartFault.{ChartFault}
 use Rattle.faults.specs.declared.CodeFault.{CodeFault}
 use Rattle.faults.specs.declared.CodeFault.TheVariants.{Chart}
-use Rattle.codefile.specs.File.{Code, code_of}
+use Rattle.codefile.specs.File.{Code}
 use Rattle.codefile.specs.declared.write.WriteFault.TheVariants as write
 use Rattle.codefile.specs.Written.{written, file_of, word_count}
 use Rattle.lines.specs.Grammar.{Tree}
@@ -16,7 +16,7 @@ use Rattle.translation.specs.declared.draft.Draft.{Draft}
 use Rattle.translation.specs.Drafts.{Drafted}
 use Rattle.translation.specs.Soundness.{AllFit}
 use Rattle.compile.specs.Compiled.{lines_of, passed, chart_in, chart_of_text, program_of, file_of_chart, file_in, compiled, answer_of, buffer_with}
-use Rattle.compile.specs.Laws.{Reads, LoadsAs}
+use Rattle.compile.specs.Laws.{Reads}
 use Rattle.compile.specs.Steps.{Charted, Files}
 use Rattle.compile.proofs.TextLaws.{text_law}
 
@@ -74,11 +74,6 @@ answers text old new r ls h f =
       answer = f.answer ∙ ap answer_of same;
       buffer = f.buffer ∙ ap (λ w. buffer_with w old) same;
     }
-
-pub loads_as : (text new : List ℕ) (r : Result ℕ CodeFault) (ls : List Tree) → chart_of_text text ≡ Ok ls →
-    IfOk r (λ n. code_of (take n new) ≡ Ok (program_of ls)) → IfOk r (λ n. LoadsAs text n new)
-loads_as text new (Ok n) ls h l = record { lines = ls; chart = h; loads = l }
-loads_as text new (Err f) ls h l = tt
 
 -- ---- the length that is answered lies within the buffer
 file_within : (c : Code) (room e : ℕ) → IfOk (answer_of (file_in (written c room) e)) (λ n. n ≤ room)

@@ -1,3 +1,3 @@
 pub mod TextLaws
-pub mod Filing
 pub mod Compiling
+pub mod Filing

@@ -1,9 +1,11 @@
 -- What compile reads, in the words of the chart language. Assumes nothing.
-use Rattle.std.specs.Prelude.{◌≡◌, ℕ, ◌<◌, ◌⊎◌, List, length, take, Ok, Err, Result}
+use Rattle.std.specs.Prelude.{◌≡◌, ◌≢◌, ℕ, ◌<◌, ◌≤◌, ◌⊎◌, List, length, take, Ok, Err, Result}
 use Rattle.faults.specs.Numbers.{text_place}
 use Rattle.faults.specs.declared.TextFault.{TextFault}
 use Rattle.faults.specs.declared.CodeFault.{CodeFault}
+use Rattle.faults.specs.declared.CodeFault.TheVariants.{BufferTooShort}
 use Rattle.codefile.specs.declared.program.Program.{Program}
+use Rattle.codefile.specs.Format.{longest_file}
 use Rattle.codefile.specs.File.{code_of}
 use Rattle.codefile.specs.Loads.{code_in}
 use Rattle.text.specs.declared.token.Token.{Token}
@@ -13,7 +15,7 @@ use Rattle.lines.specs.Laws as lines
 use Rattle.lines.specs.Laws.{LinesUpTo, StuckText, Viable}
 use Rattle.chart.specs.Checks.{chart_of}
 use Rattle.chart.specs.First.{First}
-use Rattle.compile.specs.Compiled.{lines_of, chart_of_text, program_of}
+use Rattle.compile.specs.Compiled.{lines_of, chart_of_text, program_of, compiled}
 
 -- the tokens are whole lines, and then the beginning of a line
 pub record GoesOn (ts : List Token) : Type 0 where
@@ -52,11 +54,15 @@ abbrev pub ChartLaw : List ℕ → Type 0
 ChartLaw text = (ls : List Tree) → lines_of text ≡ Ok ls → First ls (length text) (chart_of ls (length text))
 
 -- ---- load after compile
--- the first n bytes of the buffer are a code file that is accepted, and its program is that of the chart
-pub record LoadsAs (text : List ℕ) (n : ℕ) (buffer : List ℕ) : Type 0 where
+-- the text passes all checks, and the file is accepted and says the program of its lines
+pub record FileOf (text file : List ℕ) : Type 0 where
   pub lines : List Tree
-  pub chart : chart_of_text text ≡ Ok lines
-  pub loads : code_of (take n buffer) ≡ Ok (program_of lines)
+  pub passes : chart_of_text text ≡ Ok lines
+  pub reads : code_of file ≡ Ok (program_of lines)
+
+-- the first n bytes of the buffer are such a file
+abbrev pub LoadsAs : List ℕ → ℕ → List ℕ → Type 0
+LoadsAs text n buffer = FileOf text (take n buffer)
 
 -- the text passes all checks, and the program has the initial steps and the words of its chart
 pub record ProgramOf (text : List ℕ) (p : Program) : Type 0 where
@@ -68,3 +74,8 @@ pub record ProgramOf (text : List ℕ) (p : Program) : Type 0 where
 abbrev pub Built : List ℕ → Program → Program → Result ℕ CodeFault → Type 0
 Built text old new (Ok n) = ProgramOf text new
 Built text old new (Err f) = new ≡ old
+
+-- ---- room for the longest file suffices: what is compiled is the same in all such room, and fault 13 does not come
+pub record RoomSuffices (text : List ℕ) : Type 0 where
+  pub same_file : (room : ℕ) → longest_file ≤ room → compiled text room ≡ compiled text longest_file
+  pub never_short : (room : ℕ) → longest_file ≤ room → (n : ℕ) → compiled text room ≢ Err (BufferTooShort n)

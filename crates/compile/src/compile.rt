@@ -1,7 +1,7 @@
 //! From a chart text to its code file.
 ghost use Rattle.std.specs.Prelude.{◌≡◌, ◌≤◌, length, IfOk};
 ghost use Rattle.compile.specs.Compiled.{compiled, answer_of, buffer_with};
-ghost use Rattle.compile.specs.Laws.{TextLaw, ChartLaw, LoadsAs, Built};
+ghost use Rattle.compile.specs.Laws.{TextLaw, ChartLaw, LoadsAs, Built, RoomSuffices};
 
 use crate::compiler::Compiler;
 use crate::file::write_draft;
@@ -18,6 +18,7 @@ impl Compiler {
         ensures chart { ChartLaw text.now }
         ensures loads_back { IfOk result (λ n. LoadsAs text.now n buffer.new) }
         ensures within { IfOk result (λ n. n ≤ length buffer.old) }
+        ensures room_suffices { RoomSuffices text.now }
     {
         self.check(text)?;
         write_draft(&self.draft, text.len(), buffer)
@@ -35,6 +36,7 @@ impl Compiler {
         ensures buffer { buffer.new ≡ buffer_with (compiled text.now (length buffer.old)) buffer.old }
         ensures program { Built text.now program.old program.new result }
         ensures within { IfOk result (λ n. n ≤ length buffer.old) }
+        ensures room_suffices { RoomSuffices text.now }
     {
         let length = self.compile(text, buffer)?;
         program.load(&buffer[..length]).unwrap();

@@ -13,8 +13,8 @@ use Rattle.running.specs.Texts.{ChartOf, BeginsWith}
 program_of_text : (text file : List ℕ) (n : ℕ) (c : Controller) → LoadsAs text n file → Loaded (take n file) c → ProgramOf text c.program
 program_of_text text file n c l k = record {
   lines = l.lines;
-  passes = l.chart;
-  code = let same = sym k.program ∙ l.loads in cc;
+  passes = l.passes;
+  code = let same = sym k.program ∙ l.reads in cc;
 }
 
 -- the program of an accepted text is compiled from its chart
