@@ -1,4 +1,3 @@
 pub mod Compiled
 pub mod Laws
 pub mod Steps
-pub mod Table

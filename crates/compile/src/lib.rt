@@ -4,4 +4,3 @@
 mod compile;
 pub mod compiler;
 mod file;
-pub mod table;

@@ -4,3 +4,4 @@ pub mod Laws
 pub mod Once
 pub mod Telling
 pub mod Naming
+pub mod Worked

@@ -14,7 +14,7 @@ use Rattle.plain.proofs.Cases.{InEachCase, by_cases}
 abbrev Tells : Plain → Stage → Call → Answer → Plain → Type 0
 Tells p s call answer q = q.outputs ≡ outputs_after answer p.outputs
 
-landed_outputs : (v : Verdict) (s : State) (frame outputs : ℕ) (p : Plain) → (landed v s frame outputs p).outputs ≡ outputs
+pub landed_outputs : (v : Verdict) (s : State) (frame outputs : ℕ) (p : Plain) → (landed v s frame outputs p).outputs ≡ outputs
 landed_outputs (Stable m) s frame outputs p = refl
 landed_outputs (Circling j k) s frame outputs p = refl
 landed_outputs Overlong s frame outputs p = refl

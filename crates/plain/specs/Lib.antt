@@ -6,3 +6,6 @@ pub mod Laws
 pub mod Campaigns
 pub mod Shown
 pub mod Outputs
+pub mod Lexings
+pub mod PlainScans
+pub mod WorkedExamples

@@ -2,4 +2,3 @@ pub mod Spelling
 pub mod Runs
 pub mod Lex
 pub mod Spelled
-pub mod Table

@@ -2,7 +2,6 @@
 #![tactic(auto)]
 
 mod cut;
-pub mod table;
 pub mod token;
 pub mod tokens;
 mod word;

@@ -2,4 +2,3 @@ pub mod Judging
 pub mod Looping
 pub mod Scanning
 pub mod Settling
-pub mod Worked

@@ -1,5 +1,4 @@
 pub mod Verdicts
 pub mod Scans
 pub mod Rules
-pub mod Table
 pub mod Shown

@@ -4,4 +4,3 @@
 pub mod outcome;
 pub mod scan;
 mod shown;
-pub mod table;

@@ -21,7 +21,8 @@ Cuts text ts = tokens_of text ≡ record { tokens = ts; stop = None }
 abbrev pub Halts : List ℕ → List Token → TextFault → Type 0
 Halts text ts f = tokens_of text ≡ record { tokens = ts; stop = Some f }
 
-pub record Table : Type 0 where
+-- each text is cut as the row says
+pub record Lexings : Type 0 where
   pub empty : Cuts [] []
   pub blanks : Cuts (codes "   ") []
   pub no_blanks : Cuts (codes "step0initial") (at 0 (Keyword Step) ∷ at 4 (Digits 0) ∷ at 5 (Keyword Initial) ∷ [])
