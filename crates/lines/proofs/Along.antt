@@ -27,7 +27,7 @@ use Rattle.lines.specs.Grammar.{Tree, Numbers, more, Mark, kind, exactly, digits
 use Rattle.lines.specs.Scan as automaton
 use Rattle.lines.specs.Scan.{State, Move, step, goes, done, fault, number, output, word, listed, initial, verb, guard, end, same, only, by_word, by_digits, stepping, entering, transing, holding, start, noted, refs}
 use Rattle.lines.specs.Laws.{Uses, Viable, Possible, Eighth, Large}
-use Rattle.lines.proofs.Reading.{equal, refs_append}
+use Rattle.lines.proofs.Reading.{equal, join_matches, refs_append}
 use Rattle.lines.proofs.Whole.{prefix_refs, prefix_tally}
 
 -- what u spells so far by the grammar alone, told by what the line still wants
@@ -53,12 +53,6 @@ Within (initial n) = Small n
 Within (verb n) = Small n
 Within (guard n fs ts us x) = FitsState x × (Small n × AllSmall fs × AllSmall ts)
 Within (end l) = FitsLine l
-
-join_matches : (u v : List Token) (ms ns : List Mark) → Matches u ms → Matches v ns → Matches (u ++ v) (ms ++ ns)
-join_matches [] v [] ns a b = b
-join_matches [] v (m ∷ ms) ns a b = absurd a
-join_matches (t ∷ u) v [] ns a b = absurd a
-join_matches (t ∷ u) v (m ∷ ms) ns a b = (a.0, join_matches u v ms ns a.1 b)
 
 of_kinds : (u : List Token) (ks : List TokenKind) → kinds u ≡ ks → Matches u (map kind ks)
 of_kinds [] [] h = tt

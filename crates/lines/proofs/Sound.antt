@@ -66,7 +66,7 @@ ends_shorter ts used rest e h =
     (λ a. omega (arith, ap length a.2 ∙ length-append used (a.0 ∷ rest)))
     e
 
-pub whole_line_read : {from rest : Rest} {l : Line} {before after : Kept} → LineFrom start from l rest before after → ReadsLine start from l rest before after
+pub whole_line_read : {from rest : Rest} {l : Line} {before after : Kept} → LineFrom [] start from l rest before after → ReadsLine start from l rest before after
 whole_line_read {from} {rest} r =
     let b = sound from.tokens.now rest.tokens.now from.end r.tree r.is in
-    record { tree = r.tree; is = r.is; shown = r.shown; emitted = r.emitted; begins = b; fits = b.fits; shorter = ends_shorter from.tokens.now b.used rest.tokens.now b.ends; same_end = r.same_end }
+    record { tree = r.tree; is = r.is; shown = r.shown; parts = r.parts; emitted = r.emitted; begins = b; fits = b.fits; shorter = ends_shorter from.tokens.now b.used rest.tokens.now b.ends; same_end = r.same_end }

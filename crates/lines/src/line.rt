@@ -1,19 +1,19 @@
 //! One line.
-ghost use Rattle.std.specs.Prelude.{◌≡◌, IfErr, MatchResult};
+ghost use Rattle.std.specs.Prelude.{◌≡◌, [], IfErr, MatchResult};
 ghost use Rattle.words.specs.Emitted.{kept_in};
 ghost use Rattle.conditions.specs.Readers.{Grown};
 ghost use Rattle.lines.specs.Scan.{line_of, fails, start, stepping, transing, holding, entering};
 ghost use Rattle.lines.specs.Laws.{Only, Nowhere, Stuck};
-ghost use Rattle.lines.specs.Parts.{ReadsLine, LineFrom, QuietFrom, NoLineFrom};
+ghost use Rattle.lines.specs.Parts.{ReadsLine, LineFrom, TransFrom, QuietFrom, NoLineFrom, ReadsGuard, NoGuard};
 ghost use Rattle.lines.specs.Next.{NextLine};
 
-use crate::parts::{finish, initial, list, number, output, verb, word};
-use crate::shape::{Line, Transition};
+use crate::parts::{finish, initial, list, number, output, used, verb, word};
+use crate::shape::{Line, Number, Transition};
 use crate::steps::test_steps;
 use conditions::condition::read_condition;
 use conditions::rest::Rest;
 use faults::TextFault;
-use text::token::{TokenKind, Word};
+use text::token::{Token, TokenKind, Word};
 use words::instruction::Instruction;
 use words::list::WordList;
 
@@ -53,7 +53,7 @@ pub fn next_line<'a>(
 #[tactic(auto, using(conditions::proofs::Pushing::grown_none))]
 fn read<'a>(input: Rest<'a>, guards: &mut WordList) -> Result<(Line<'a>, Rest<'a>), TextFault>
     ensures reads { MatchResult result
-        (λ p. LineFrom start input.entry p.0 p.1 (kept_in guards.old) (kept_in guards.new))
+        (λ p. LineFrom [] start input.entry p.0 p.1 (kept_in guards.old) (kept_in guards.new))
         (λ f. NoLineFrom start input.entry f) }
     ensures leaves { IfErr result (λ f. Grown (kept_in guards.old) (kept_in guards.new)) }
 {
@@ -110,24 +110,20 @@ fn enter<'a>(input: Rest<'a>) -> Result<(Line<'a>, Rest<'a>), TextFault>
     ))
 }
 
-#[tactic(auto, using(conditions::proofs::Pushing::grown_none, conditions::proofs::Pushing::grown_on))]
+#[tactic(auto, using(conditions::proofs::Pushing::grown_none, crate::proofs::Reading::grown_behind))]
 fn trans<'a>(input: Rest<'a>, guards: &mut WordList) -> Result<(Line<'a>, Rest<'a>), TextFault>
     ensures reads { MatchResult result
-        (λ p. LineFrom transing input.entry p.0 p.1 (kept_in guards.old) (kept_in guards.new))
+        (λ p. TransFrom input.entry p.0 p.1 (kept_in guards.old) (kept_in guards.new))
         (λ f. NoLineFrom transing input.entry f) }
     ensures leaves { IfErr result (λ f. Grown (kept_in guards.old) (kept_in guards.new)) }
 {
     let (number, behind_number) = number(input)?;
     let first = word(behind_number, Word::From)?;
     let (from, second) = list(first, Word::To)?;
-    let (to, guard) = list(second, Word::When)?;
+    let (to, third) = list(second, Word::When)?;
     test_steps(from, guards);
-    guards.push(Instruction::AndOpen);
-    let rest = read_condition(guard, guards)?;
-    guards.push(Instruction::Close);
-    guards.push(Instruction::Store(number.value));
+    let (condition, rest) = guard(third, number, guards)?;
     let left = finish(rest)?;
-    let condition = &guard.tokens[..guard.tokens.len() - rest.tokens.len()];
     Ok((
         Line::Trans(Transition {
             number,
@@ -137,4 +133,24 @@ fn trans<'a>(input: Rest<'a>, guards: &mut WordList) -> Result<(Line<'a>, Rest<'
         }),
         left,
     ))
+}
+
+// The condition of a transition: its tokens, and what is left behind them. Its words in brackets, and the store of its value,
+// are put behind those in `guards`.
+#[tactic(auto, using(crate::proofs::Reading::guard_read, crate::proofs::Reading::grown_behind))]
+fn guard<'a>(
+    input: Rest<'a>,
+    number: Number,
+    guards: &mut WordList,
+) -> Result<(&'a [Token], Rest<'a>), TextFault>
+    ensures reads { MatchResult result
+        (λ p. ReadsGuard number.value input.entry p.0.now p.1 (kept_in guards.old) (kept_in guards.new))
+        (λ f. NoGuard input.entry f) }
+    ensures leaves { IfErr result (λ f. Grown (kept_in guards.old) (kept_in guards.new)) }
+{
+    guards.push(Instruction::AndOpen);
+    let rest = read_condition(input, guards)?;
+    guards.push(Instruction::Close);
+    guards.push(Instruction::Store(number.value));
+    Ok((used(input, rest), rest))
 }

@@ -1,8 +1,8 @@
 //! What a line is made of: numbers, outputs, words and lists. Each reader takes what is left of the tokens, and answers
 //! what is left behind what it reads.
-ghost use Rattle.std.specs.Prelude.{MatchResult};
+ghost use Rattle.std.specs.Prelude.{◌≡◌, ◌++◌, MatchResult};
 ghost use Rattle.lines.specs.Parts.{ReadsNumber, ReadsOutput, ReadsWord, SaysInitial, ReadsVerb, ReadsEnd, ReadsList};
-ghost use Rattle.lines.specs.Parts.{NoNumber, NoOutput, NoWord, NoVerb, NoEnd, NoList};
+ghost use Rattle.lines.specs.Parts.{NoNumber, NoOutput, NoWord, NoVerb, NoEnd, NoList, Leaves};
 
 use crate::shape::{Action, Number};
 use conditions::rest::{Rest, small};
@@ -69,6 +69,15 @@ pub(crate) fn finish<'a>(input: Rest<'a>) -> Result<Rest<'a>, TextFault>
     }
 }
 
+/// The tokens that are used where `rest` is left.
+#[tactic(auto, using(crate::proofs::Reading::used_split))]
+pub(crate) fn used<'a>(input: Rest<'a>, rest: Rest<'a>) -> &'a [Token]
+    requires { Leaves input rest }
+    ensures { input.entry.tokens.now ≡ result.now ++ rest.entry.tokens.now }
+{
+    &input.tokens[..input.tokens.len() - rest.tokens.len()]
+}
+
 /// Numbers with `,` between them, and the word that ends them. Answers the tokens of the list, and what is left behind the
 /// word.
 pub(crate) fn list<'a>(input: Rest<'a>, until: Word) -> Result<(&'a [Token], Rest<'a>), TextFault>
@@ -79,6 +88,6 @@ pub(crate) fn list<'a>(input: Rest<'a>, until: Word) -> Result<(&'a [Token], Res
         let (_, left) = number(after)?;
         rest = left;
     }
-    let part = &input.tokens[..input.tokens.len() - rest.tokens.len()];
+    let part = used(input, rest);
     Ok((part, word(rest, until)?))
 }

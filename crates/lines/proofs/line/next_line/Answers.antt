@@ -20,6 +20,7 @@ returns c =
       begins = line.begins;
       first = first_line _ _ _ _ some line.is ∙ ap (λ e. put line.tree (read_lines rest.tokens.now between e)) (sym line.same_end);
       shown = line.shown;
+      parts = line.parts;
       emitted = line.emitted;
       shorter = line.shorter some;
       same_end = line.same_end;

@@ -1,6 +1,6 @@
 use Rattle.std.proofs.Common.{refl, rules}
 use Rattle.text.specs.declared.token.Word.TheVariants.{Step, Hold, Enter}
-use Rattle.lines.proofs.Reading.{none_left, begun_line, ended_at_once}
+use Rattle.lines.proofs.Reading.{none_left, begun_line, transition_line, ended_at_once}
 use Rattle.lines.proofs.line.read.Goals as goal
 
 pub returns-then-is_empty-clause-reads : goal.returns-then-is_empty-clause-reads
@@ -11,6 +11,9 @@ returns-in-LineEnd-clause-reads c = ended_at_once c.in_ok-first.first _ c.in-Lin
 
 pub returns-in-Keyword-Step-clause-reads : goal.returns-in-Keyword-Step-clause-reads
 returns-in-Keyword-Step-clause-reads c = begun_line Step c.in_ok-first.first _ _ (search rules) c.in_ok-first.ensures (λ at. refl) c.step.ensures
+
+pub returns-in-Keyword-Trans-clause-reads : goal.returns-in-Keyword-Trans-clause-reads
+returns-in-Keyword-Trans-clause-reads c = transition_line _ _ c.in_ok-first.first _ (search rules) c.in_ok-first.ensures c.trans.ensures.reads
 
 pub returns-in-Keyword-Hold-clause-reads : goal.returns-in-Keyword-Hold-clause-reads
 returns-in-Keyword-Hold-clause-reads c = begun_line Hold c.in_ok-first.first _ _ (search rules) c.in_ok-first.ensures (λ at. refl) c.hold.ensures
