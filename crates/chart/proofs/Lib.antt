@@ -6,3 +6,4 @@ pub mod Gathered
 pub mod FirstFaults
 pub mod Noting
 pub mod LinePasses
+pub mod Scratching

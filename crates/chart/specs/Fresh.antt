@@ -1,8 +1,9 @@
 -- A checker before its first text. Assumes nothing.
-use Rattle.std.specs.Prelude.{[]}
 use Rattle.chart.specs.declared.checker.Checker.{Checker}
-use Rattle.chart.specs.Seen.{Remembers}
+use Rattle.chart.specs.Sets.{Empty}
+use Rattle.chart.specs.Seen.{Unused}
 
--- it has seen no lines
-abbrev pub Fresh : Checker → Type 0
-Fresh c = Remembers c.seen []
+-- it has read nothing: no step is declared, and no line is seen
+pub record Fresh (c : Checker) : Type 0 where
+  pub declared : Empty c.declared
+  pub seen : Unused c.seen

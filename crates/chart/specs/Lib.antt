@@ -4,5 +4,6 @@ pub mod Numbers
 pub mod Sets
 pub mod Findings
 pub mod Seen
+pub mod Scratch
 pub mod First
 pub mod Fresh

@@ -11,6 +11,10 @@ use Rattle.chart.specs.Numbers.{member}
 abbrev pub holds : NumberSet → ℕ → Bool
 holds set n = member n set.numbers
 
+-- the set has no number
+abbrev pub Empty : NumberSet → Type 0
+Empty set = (n : ℕ) → holds set n ≡ false
+
 -- the set has the values of these numbers
 abbrev pub Knows : NumberSet → List Number → Type 0
 Knows set ns = (n : Number) → holds set n.value ≡ has same_number n ns

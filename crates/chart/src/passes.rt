@@ -1,5 +1,6 @@
 //! The two passes over the lines of a text: first what they declare, then their faults.
 ghost use Rattle.std.specs.Prelude.{◌≡◌, List, [], ◌∷◌, ◌++◌, Err as Refused, MatchResult};
+ghost use Rattle.words.specs.Emitted.{kept_in};
 ghost use Rattle.lines.specs.declared.shape.Number.{Number as TheNumber};
 ghost use Rattle.lines.specs.Grammar.{Tree};
 ghost use Rattle.lines.specs.Parts.{Shows};
@@ -8,6 +9,7 @@ ghost use Rattle.chart.specs.Said.{steps_of, is_initial, all};
 ghost use Rattle.chart.specs.Checks.{chart_faults, first_of, on_lines};
 ghost use Rattle.chart.specs.Sets.{Knows};
 ghost use Rattle.chart.specs.Seen.{Declared};
+ghost use Rattle.chart.specs.Scratch.{Emits};
 
 use crate::findings::Findings;
 use crate::seen::Seen;
@@ -38,9 +40,10 @@ pub(crate) fn find_declared(
     text: Rest<'_>,
     words: &mut WordList,
 ) -> Result<bool, TextFault>
-    ensures { MatchResult result
+    ensures declared { MatchResult result
         (λ initial. Declared (lines_left text.entry) initial declared.new)
         (λ f. lines_left text.entry ≡ Refused f) }
+    ensures emits { Emits (lines_left text.entry) (kept_in words.old) (kept_in words.new) }
 {
     declared.clear();
     let mut any_initial = false;
@@ -59,8 +62,9 @@ pub(crate) fn find_fault(
     text: Rest<'_>,
     words: &mut WordList,
 ) -> Result<Option<ChartFault>, TextFault>
-    ensures { (ns : List TheNumber) → Knows declared.now ns →
+    ensures first { (ns : List TheNumber) → Knows declared.now ns →
         result ≡ on_lines (λ ls. first_of (chart_faults ns [] ls)) (lines_left text.entry) }
+    ensures emits { Emits (lines_left text.entry) (kept_in words.old) (kept_in words.new) }
 {
     seen.clear();
     let mut findings = Findings {

@@ -3,7 +3,7 @@ ghost use Rattle.std.specs.Prelude.{List, [], IfOk};
 ghost use Rattle.lines.specs.declared.shape.Line.TheVariants.{Trans as OfTransition};
 ghost use Rattle.lines.specs.Grammar.{Tree};
 ghost use Rattle.lines.specs.Parts.{Shows};
-ghost use Rattle.chart.specs.Seen.{Remembers, NotesLine};
+ghost use Rattle.chart.specs.Seen.{Remembers, Unused, NotesLine};
 
 use crate::findings::Findings;
 use crate::set::NumberSet;
@@ -25,7 +25,7 @@ pub struct Seen {
 impl Seen {
     /// With room for any text's lines.
     pub(crate) fn new(heap: Global) -> Result<Seen, AllocError>
-        ensures { IfOk result (λ s. Remembers s []) }
+        ensures { IfOk result (λ s. Unused s) }
     {
         let steps = NumberSet::new(heap)?;
         let transitions = NumberSet::new(heap)?;

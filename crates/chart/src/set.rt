@@ -1,5 +1,5 @@
 //! A set of numbers.
-ghost use Rattle.std.specs.Prelude.{◌≡◌, ℕ, true, false, ◌||◌, IfOk, ◌==◌};
+ghost use Rattle.std.specs.Prelude.{◌≡◌, ℕ, true, ◌||◌, IfOk, ◌==◌};
 ghost use Rattle.chart.specs.Numbers.{distinct};
 
 use room::Reserved;
@@ -15,11 +15,11 @@ pub struct NumberSet {
 }
 
 impl NumberSet {
-    ghost use Rattle.chart.specs.Sets.{holds};
+    ghost use Rattle.chart.specs.Sets.{holds, Empty};
 
     /// An empty set.
     pub(crate) fn new(heap: Global) -> Result<NumberSet, AllocError>
-        ensures { IfOk result (λ s. (n : ℕ) → holds s n ≡ false) }
+        ensures { IfOk result (λ s. Empty s) }
     {
         let numbers = Reserved::new(heap)?;
         Ok(NumberSet { numbers })
@@ -27,7 +27,7 @@ impl NumberSet {
 
     /// Takes all numbers out.
     pub(crate) fn clear(&mut self)
-        ensures { (n : ℕ) → holds self.new n ≡ false }
+        ensures { Empty self.new }
     {
         self.numbers.clear();
     }

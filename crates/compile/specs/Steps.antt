@@ -6,6 +6,7 @@ use Rattle.words.specs.Emitted.{kept_in, nothing}
 use Rattle.codefile.specs.Written.{written}
 use Rattle.text.specs.Lex.{list_in}
 use Rattle.lines.specs.Grammar.{Tree}
+use Rattle.chart.specs.Fresh as chart
 use Rattle.translation.specs.declared.draft.Draft.{Draft}
 use Rattle.translation.specs.Drafts.{Drafted, sketch_of, blank}
 use Rattle.compile.specs.declared.compiler.Compiler.{Compiler}
@@ -15,6 +16,7 @@ use Rattle.compile.specs.Compiled.{file_in, answer_of, buffer_with, program_of}
 pub record Fresh (c : Compiler) : Type 0 where
   pub tokens : list_in c.tokens ≡ []
   pub draft : sketch_of c.draft ≡ blank
+  pub checker : chart.Fresh c.checker
   pub scratch : kept_in c.scratch ≡ nothing
 
 -- the lines of a chart are in the draft, or the chart's fault is answered
