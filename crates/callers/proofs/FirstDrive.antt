@@ -20,6 +20,7 @@ use Rattle.controller.specs.declared.scans.OpenScan.TheVariants.{Nothing}
 use Rattle.controller.specs.declared.controller.Controller.{Controller}
 use Rattle.callers.specs.Restarts.{restarted, FoundAndDelivered}
 use Rattle.callers.proofs.Alike.{same_controller}
+use Rattle.callers.proofs.Scanning.{at_rest}
 use Rattle.callers.proofs.Calling.{Made, made, second_entry}
 
 -- a carriage's own rule
@@ -74,7 +75,16 @@ module _ (b : Behaviour) (c : Controller) (i : Track) where
 pub driven_found : {b : Behaviour} {c : Controller} {i : Track} {log : List Entry} {none : Entry} {d : Controller} {j : Track} → Driven b c i log none d j → FoundAndDelivered b c (sensors i.position) d j.outputs (get_or log 1 none).answer
 driven_found {b} {c} {i} {d = d} {j} w =
     subst (FoundAndDelivered b c (sensors i.position) d j.outputs) (sym w.found)
-    (record { outcome = w.outcome; comes = w.comes; verdict = refl; controller = w.controller; shown = ap (λ t. t.outputs) w.track })
+    (record {
+      outcome = w.outcome;
+      comes = w.comes;
+      verdict = refl;
+      controller = w.controller;
+      shown = ap (λ t. t.outputs) w.track;
+      rest =
+          at_rest b (restarted b c) d b.begins None (sensors i.position) j.outputs w.outcome w.comes w.controller
+          (ap (λ t. t.outputs) w.track);
+    })
 
 -- and it has moved by the outputs that it then has
 pub driven_moves : {b : Behaviour} {c : Controller} {i : Track} {log : List Entry} {none : Entry} {d : Controller} {j : Track} → Driven b c i log none d j → j.position ≡ moved j.outputs i.position

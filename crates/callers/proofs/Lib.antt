@@ -3,3 +3,4 @@ pub mod Calling
 pub mod TwoCalls
 pub mod FirstDrive
 pub mod Alike
+pub mod Tasking

@@ -1,2 +1,4 @@
+pub mod Panels
 pub mod Scans
 pub mod Restarts
+pub mod Tasks

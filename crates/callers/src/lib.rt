@@ -5,3 +5,6 @@
 pub mod campaigns;
 pub mod carriages;
 pub mod cycles;
+pub mod ending;
+pub mod panel;
+pub mod task;
