@@ -3,6 +3,7 @@ ghost use Rattle.std.specs.Prelude.{◌≡◌, ℕ, ◌+◌, ◌*◌};
 
 use crate::failure::Failure;
 use crate::files::read_file;
+use codefile::format::LONGEST_FILE;
 use compile::compiler::Compiler;
 use faults::Fault;
 use std::alloc::AllocError;
@@ -10,9 +11,6 @@ use std::{fs, io};
 use telling::cause::cause_of;
 use telling::excerpt::excerpt;
 use telling::position::{Position, position_at};
-
-/// The length of the longest code file: 44 bytes and 4,096 words.
-pub const LONGEST_FILE: usize = 16428;
 
 // The number of words in a code file of this length: 44 bytes stand before them, and each has four.
 fn words_in(length: usize) -> usize

@@ -1,11 +1,13 @@
 //! `grafcet` alone: a chart text is compiled, its code file is loaded and listed, frames are scanned, and wrong texts
 //! and damaged files are refused.
-use crate::compiling::{LONGEST_FILE, print_compiled};
+use crate::compiling::print_compiled;
 use crate::example::{FRAMES, TEXT, TURNS, WRONG, print_text};
 use crate::failure::Failure;
 use crate::showing_campaigns::show_campaigns;
+use codefile::format::LONGEST_FILE;
 use codefile::program::Program;
 use compile::compiler::Compiler;
+use controller::controller::Controller;
 use damages::damage::{Damage, try_damaged};
 use faults::Fault;
 use showing::listing::{print_loaded, print_program};
@@ -79,23 +81,34 @@ fn try_turns(
     rt: &HostRuntime,
     compiler: &mut Compiler,
     buffer: &mut [u8],
-    program: &mut Program,
+    controller: &mut Controller,
 ) -> Result<(), Failure> {
     println!(rt; "\nA chart that never comes to rest:")?;
     print_text(rt, TURNS)?;
-    compiler.build(TURNS.as_bytes(), buffer, program)?;
-    show_scans(rt, program, &FRAMES)?;
+    let length = compiler.compile(TURNS.as_bytes(), buffer)?;
+    scan_frames(rt, controller, &buffer[..length])
+}
+
+// Scans of the program of a code file.
+fn scan_frames(rt: &HostRuntime, controller: &mut Controller, file: &[u8]) -> Result<(), Failure> {
+    controller.load(file).map_err(Failure::Refused)?;
+    show_scans(rt, controller, &FRAMES)?;
     Ok(())
 }
 
 // The program of the chart: its code file, its words, and scans of some frames.
-fn show_program(rt: &HostRuntime, program: &Program, length: usize) -> io::Result<()> {
+fn show_program(
+    rt: &HostRuntime,
+    program: &Program,
+    controller: &mut Controller,
+    file: &[u8],
+) -> Result<(), Failure> {
     println!(rt; "\nCompiled to a code file:")?;
-    print_compiled(rt, length)?;
+    print_compiled(rt, file.len())?;
     println!(rt; "\nThe code file, loaded into a program:")?;
     print_program(rt, program)?;
     println!(rt; "\nScans of the program, each delivered:")?;
-    show_scans(rt, program, &FRAMES)
+    scan_frames(rt, controller, file)
 }
 
 // The task, from the chart's text on.
@@ -104,20 +117,28 @@ fn go_through(
     compiler: &mut Compiler,
     buffer: &mut [u8],
     program: &mut Program,
+    controller: &mut Controller,
 ) -> Result<(), Failure> {
     let length = compiler.build(TEXT.as_bytes(), buffer, program)?;
-    show_program(rt, program, length)?;
+    show_program(rt, program, controller, &buffer[..length])?;
     try_damages(rt, program, &buffer[..length])?;
     try_texts(rt, compiler, buffer)?;
-    try_turns(rt, compiler, buffer, program)
+    try_turns(rt, compiler, buffer, controller)
 }
 
 // Makes what the task takes.
 fn set_out(rt: &HostRuntime) -> Result<(), Failure> {
     let mut buffer = vec![in rt.alloc(); 0u8; LONGEST_FILE]?;
     let mut program = Program::new(rt.alloc())?;
+    let mut controller = Controller::new(rt.alloc())?;
     let mut compiler = Compiler::new(rt.alloc())?;
-    let outcome = go_through(rt, &mut compiler, &mut buffer, &mut program);
+    let outcome = go_through(
+        rt,
+        &mut compiler,
+        &mut buffer,
+        &mut program,
+        &mut controller,
+    );
     drop(compiler);
     outcome
 }

@@ -1,8 +1,7 @@
 //! `grafcet load FILE`: tests a code file and lists its words.
-ghost use Rattle.std.specs.Prelude.{◌≡◌, IfOk, Ok as Accepted};
+ghost use Rattle.std.specs.Prelude.{◌≡◌, false, is_ok, IfOk, Ok as Accepted};
 ghost use Rattle.codefile.specs.File.{code_of};
 ghost use Rattle.codefile.specs.Loads.{code_in};
-ghost use Rattle.grafcet.specs.Files.{FromFile};
 
 use crate::failure::Failure;
 use crate::files::read_file;
@@ -10,30 +9,28 @@ use codefile::program::Program;
 use faults::Fault;
 use showing::listing::print_program;
 
-// Loads a file into the program. Of a refused one the fault is printed.
-fn load(rt: &HostRuntime, program: &mut Program, file: &[u8]) -> Result<(), Failure>
-    ensures { IfOk result (λ _. code_of file.now ≡ Accepted (code_in program.new)) }
+/// Prints the fault of a refused code file, and fails with it.
+pub fn refuse_file(rt: &HostRuntime, fault: Fault) -> Result<(), Failure>
+    ensures { is_ok result ≡ false }
 {
-    let Err(e) = program.load(file) else {
-        return Ok(());
-    };
-    let fault = Fault::from(e);
     println!(rt; "refused {fault}")?;
     Err(Failure::Refused(fault))
 }
 
 /// The program of a code file. Of a refused one the fault is printed.
-pub fn load_program(rt: &HostRuntime, path: &str) -> Result<Program, Failure>
-    ensures { IfOk result FromFile }
+fn load_program(rt: &HostRuntime, file: &[u8]) -> Result<Program, Failure>
+    ensures { IfOk result (λ p. code_of file.now ≡ Accepted (code_in p)) }
 {
-    let bytes = read_file(rt, path)?;
     let mut program = Program::new(rt.alloc())?;
-    load(rt, &mut program, &bytes)?;
+    if let Err(e) = program.load(file) {
+        refuse_file(rt, Fault::from(e))?;
+    }
     Ok(program)
 }
 
 pub fn run(rt: &HostRuntime, path: &str) -> Result<(), Failure> {
-    let program = load_program(rt, path)?;
+    let file = read_file(rt, path)?;
+    let program = load_program(rt, &file)?;
     print_program(rt, &program)?;
     Ok(())
 }

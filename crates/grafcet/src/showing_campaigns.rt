@@ -3,6 +3,7 @@ use crate::campaigning::{UNWRITTEN, print_log};
 use crate::example::{TEXT, print_text};
 use crate::failure::Failure;
 use callers::carriages::drive;
+use callers::task::scan_task;
 use controller::controller::Controller;
 use image::Image;
 use image::carriage::Carriage;
@@ -27,8 +28,16 @@ hold 0 Q0
 hold 1 Q1
 ";
 
-// The scans that docs/images.md shows of it.
-const SHOWN: [u32; 7] = [1, 2, 100, 101, 102, 200, 201];
+// The scans that docs/images.md shows of it, each behind so many that run unseen.
+const SHOWN: [(usize, u32); 7] = [
+    (0, 1),
+    (0, 2),
+    (97, 100),
+    (0, 101),
+    (0, 102),
+    (97, 200),
+    (0, 201),
+];
 
 fn show_trace(rt: &HostRuntime, runner: &mut Runner) -> Result<(), Failure> {
     println!(rt; "\nA campaign of the first chart, over a trace of the frames 0, 1, 2 and 3:")?;
@@ -71,20 +80,19 @@ fn show_scan(
     )
 }
 
-// To the other end and back, scan by scan.
+// To the other end and back.
 fn drive_to_and_fro(
     rt: &HostRuntime,
     controller: &mut Controller,
     carriage: &mut Carriage,
 ) -> Result<(), Failure> {
-    for scan in 1..=202 {
+    for &(unseen, scan) in &SHOWN {
+        scan_task(controller, carriage, unseen).map_err(|stopped| Failure::Refused(stopped.fault))?;
         let position = carriage.position();
         let inputs = carriage.sample().unwrap();
         drive(controller, carriage).map_err(Failure::Refused)?;
-        if SHOWN.contains(&scan) {
-            let active = controller.state().active;
-            show_scan(rt, scan, position, inputs, carriage.outputs(), active)?;
-        }
+        let active = controller.state().active;
+        show_scan(rt, scan, position, inputs, carriage.outputs(), active)?;
     }
     Ok(())
 }
