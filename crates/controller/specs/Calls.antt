@@ -15,12 +15,16 @@ use Rattle.plain.specs.declared.calls.Call.{Call}
 use Rattle.plain.specs.declared.calls.Call.TheVariants as call
 use Rattle.plain.specs.Behaviours.{Behaviour}
 use Rattle.plain.specs.Stages.{Stage, scan_open}
-use Rattle.plain.specs.Charts.{ComesTo, delivered_frame}
+use Rattle.plain.specs.Charts.{ComesTo, delivered_frame, begun}
+use Rattle.plain.specs.Charts as plain
 use Rattle.controller.specs.declared.phase.Phase.{Phase}
 use Rattle.controller.specs.declared.phase.Phase.TheVariants.{Idle, Sampled, Worked, Halted}
+use Rattle.controller.specs.declared.phase.Request.{Request}
+use Rattle.controller.specs.declared.phase.Request.TheVariants as request
 use Rattle.controller.specs.declared.phase.Turn.{Turn}
 use Rattle.controller.specs.declared.phase.Turn.TheVariants as turn
 use Rattle.controller.specs.declared.controller.Controller.{Controller}
+use Rattle.controller.specs.Standing.{standing, placed}
 use Rattle.controller.specs.declared.scans.Held.{Held}
 use Rattle.controller.specs.declared.scans.OpenScan.{OpenScan}
 use Rattle.controller.specs.declared.scans.OpenScan.TheVariants as scan
@@ -47,14 +51,24 @@ abbrev pub turn_fault : {A : Type 0} → Result A ControllerFault → Option Con
 turn_fault (Ok x) = None
 turn_fault (Err f) = Some f
 
--- ---- what a call goes on with in each phase
-abbrev pub GoesOn : Turn → Call → Phase → Type 0
-GoesOn turn.Sample c p = (c ≡ call.Sample) × (p ≡ Idle)
-GoesOn (turn.Work frame) c p = (c ≡ call.Work) × (p ≡ Sampled frame)
-GoesOn (turn.Deliver frame o) c p = (c ≡ call.Deliver) × (p ≡ Worked frame o)
-GoesOn turn.Abandon c p = c ≡ call.Abandon
-GoesOn turn.Restart c p = c ≡ call.Restart
-GoesOn turn.Advance c p = c ≡ call.Advance
+-- ---- requests
+-- the call that a request is judged as: a load by the phase is judged as a restart
+abbrev pub judged_as : Request → Call
+judged_as request.Load = call.Restart
+judged_as request.Sample = call.Sample
+judged_as request.Work = call.Work
+judged_as request.Deliver = call.Deliver
+judged_as request.Abandon = call.Abandon
+judged_as request.Restart = call.Restart
+
+-- a load, an abandonment and a restart lead to idle
+abbrev pub LeadsToIdle : Request → Type 0
+LeadsToIdle request.Load = Unit {0}
+LeadsToIdle request.Sample = ⊥
+LeadsToIdle request.Work = ⊥
+LeadsToIdle request.Deliver = ⊥
+LeadsToIdle request.Abandon = Unit {0}
+LeadsToIdle request.Restart = Unit {0}
 
 -- ---- the controller after a call
 -- another phase, and all else as it was
@@ -63,7 +77,7 @@ in_phase phase c = record { program = c.program; state = c.state; previous = c.p
 
 -- idle in this state, before any frame
 abbrev pub begun_from : State → Controller → Controller
-begun_from s c = record { program = c.program; state = s; previous = None; phase = Idle }
+begun_from s c = placed (begun s 0) c
 
 -- the open frame is worked: the phase keeps it, with what it comes to
 abbrev pub WorkedAs : Behaviour → Phase → Controller → Verdict → Controller → Type 0
@@ -80,17 +94,23 @@ due b (Sampled frame) = 0
 due b (Worked frame o) = delivered_frame b frame o
 due b Halted = 0
 
--- what a delivery leaves: of a stable scan its state, and its frame for the next edges; of any other a halt
+-- what a delivery leaves, by what it leaves of the plain chart
 abbrev pub landed : Verdict → State → ℕ → Controller → Controller
-landed (Stable m) s frame c = record { program = c.program; state = s; previous = Some frame; phase = Idle }
-landed (Circling j k) s frame c = in_phase Halted c
-landed Overlong s frame c = in_phase Halted c
+landed v s frame c = placed (plain.landed v s frame 0 (standing c 0)) c
 
 abbrev pub delivered : Phase → Controller → Controller
 delivered Idle c = c
 delivered (Sampled frame) c = c
 delivered (Worked frame o) c = landed o.verdict o.state frame c
 delivered Halted c = c
+
+-- ---- what a request in turn goes on with
+abbrev pub GoesOn : Turn → Request → Controller → Type 0
+GoesOn turn.Sample r c = (r ≡ request.Sample) × (c.phase ≡ Idle)
+GoesOn (turn.Work frame) r c = (r ≡ request.Work) × (c.phase ≡ Sampled frame)
+GoesOn (turn.Deliver frame o next) r c =
+    (r ≡ request.Deliver) × (c.phase ≡ Worked frame o) × (next ≡ (landed o.verdict o.state frame c).phase)
+GoesOn (turn.Enter next) r c = LeadsToIdle r × (next ≡ Idle)
 
 -- a file is loaded, and the controller restarted
 pub record Loaded (bytes : List ℕ) (c : Controller) : Type 0 where

@@ -17,6 +17,16 @@ stage_of Halted = halted
 abbrev pub standing : Controller → ℕ → Plain
 standing c outputs = record { stage = stage_of c.phase; state = c.state; previous = c.previous; outputs = outputs }
 
+abbrev pub phase_at : Stage → Phase
+phase_at idle = Idle
+phase_at (sampled frame) = Sampled frame
+phase_at (worked frame o) = Worked frame o
+phase_at halted = Halted
+
+-- with this program, the controller that stands for a plain chart
+abbrev pub placed : Plain → Controller → Controller
+placed p c = record { program = c.program; state = p.state; previous = p.previous; phase = phase_at p.stage }
+
 -- idle, with an empty program
 pub record Fresh (c : Controller) : Type 0 where
   pub program : code_in c.program ≡ no_code

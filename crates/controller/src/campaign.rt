@@ -27,7 +27,7 @@ fn spent_sampled(held: Held<SampledScan>) -> Fault
     ensures { result ≡ held.fault }
 {
     let Held { scan, fault } = held;
-    let SampledScan { frame: _ } = scan;
+    scan.spent();
     fault
 }
 
@@ -35,7 +35,7 @@ fn spent_worked(held: Held<WorkedScan>) -> Fault
     ensures { result ≡ held.fault }
 {
     let Held { scan, fault } = held;
-    let WorkedScan { frame: _ } = scan;
+    scan.spent();
     fault
 }
 
@@ -49,18 +49,24 @@ fn make<I: Image>(controller: &mut Controller, image: &mut I, call: Call) -> Ans
 {
     match call {
         Call::Sample => match controller.sample(image) {
-            Ok(SampledScan { frame: _ }) => Answer::Done,
+            Ok(scan) => {
+                scan.spent();
+                Answer::Done
+            }
             Err(fault) => Answer::Refused(fault),
         },
-        Call::Work => match controller.work(SampledScan { frame: 0 }) {
-            Ok((verdict, WorkedScan { frame: _ })) => Answer::Found(verdict),
+        Call::Work => match controller.work(SampledScan::opened(0)) {
+            Ok((verdict, scan)) => {
+                scan.spent();
+                Answer::Found(verdict)
+            }
             Err(held) => Answer::Refused(spent_sampled(held)),
         },
-        Call::Deliver => match controller.deliver(image, WorkedScan { frame: 0 }) {
+        Call::Deliver => match controller.deliver(image, WorkedScan::opened(0)) {
             Ok(outputs) => Answer::Delivered(outputs),
             Err(held) => Answer::Refused(spent_worked(held)),
         },
-        Call::Abandon => match controller.abandon(WorkedScan { frame: 0 }) {
+        Call::Abandon => match controller.abandon(WorkedScan::opened(0)) {
             Ok(()) => Answer::Done,
             Err(held) => Answer::Refused(spent_worked(held)),
         },
@@ -96,8 +102,8 @@ fn open_scan(controller: &Controller) -> OpenScan
     ensures { result ≡ scan_in controller.now.phase }
 {
     match controller.phase {
-        Phase::Sampled(frame) => OpenScan::Sampled(SampledScan { frame }),
-        Phase::Worked(frame, _) => OpenScan::Worked(WorkedScan { frame }),
+        Phase::Sampled(frame) => OpenScan::Sampled(SampledScan::opened(frame)),
+        Phase::Worked(frame, _) => OpenScan::Worked(WorkedScan::opened(frame)),
         Phase::Idle | Phase::Halted => OpenScan::Nothing,
     }
 }

@@ -1,11 +1,13 @@
 //! The controller's parts.
 ghost use Rattle.std.specs.Prelude.{◌≡◌, IfOk};
+ghost use Rattle.controller.specs.Parts.{OutcomeHolds};
 ghost use Rattle.controller.specs.Standing.{Fresh};
 
 use crate::phase::Phase;
 use codefile::program::Program;
 use evolution::state::State;
 use std::alloc::{AllocError, Global};
+use std::marker::Model;
 
 /// Runs the program of a code file. Its room is reserved once: no call but `new` allocates.
 #[derive(Drop)]
@@ -15,6 +17,16 @@ pub struct Controller {
     /// The frame of the last stable scan that was delivered since the start.
     pub(crate) previous: Option<u64>,
     pub(crate) phase: Phase,
+}
+
+impl Model for Controller {
+    ghost use Rattle.controller.specs.Parts.{Parts, OutcomeHolds};
+
+    ghost Value = { Parts };
+
+    ghost view = { λ c. record { program = c.program; state = c.state; previous = c.previous; phase = c.phase } };
+
+    ghost invariant = { λ c. OutcomeHolds c.program c.state c.previous c.phase };
 }
 
 impl Controller {
@@ -45,5 +57,20 @@ impl Controller {
         ensures { result ≡ self.now.state }
     {
         self.state
+    }
+
+    /// The frame of the last stable scan that was delivered since the start, if there is one.
+    pub fn previous(&self) -> Option<u64>
+        ensures { result ≡ self.now.previous }
+    {
+        self.previous
+    }
+
+    /// The phase, with its open scan. The outcome of a worked scan is what its frame comes to.
+    pub fn phase(&self) -> Phase
+        ensures phase { result ≡ self.now.phase }
+        ensures outcome { OutcomeHolds self.now.program self.now.state self.now.previous result }
+    {
+        self.phase
     }
 }

@@ -7,8 +7,8 @@ ghost use Rattle.controller.specs.Standing.{stage_of};
 ghost use Rattle.controller.specs.Calls.{fault_of, load_refusal, Loaded};
 
 use crate::controller::Controller;
-use crate::phase::Phase;
-use faults::{ControllerFault, Fault};
+use crate::phase::{Request, Turn};
+use faults::Fault;
 
 impl Controller {
     /// Takes the program of a code file and begins with it, or names why not and changes nothing.
@@ -20,11 +20,11 @@ impl Controller {
             OnOk result (self.new.state ≡ (by_chart c).begins) }
         ensures refused { OnErr result (self.new ≡ self.old) }
     {
-        if let Phase::Sampled(_) | Phase::Worked(..) = self.phase {
-            return Err(Fault::from(ControllerFault::ScanOpen));
-        }
+        let Turn::Enter(next) = self.judged(Request::Load)? else {
+            unreachable!();
+        };
         self.program.load(bytes)?;
-        self.begin();
+        self.begin(next);
         Ok(())
     }
 }

@@ -1,4 +1,4 @@
-//! The phases.
+//! The phases, and what they allow.
 use verdict::outcome::Outcome;
 
 /// A phase keeps its open scan: the frame that was sampled and, once that is worked, what it comes to.
@@ -11,13 +11,26 @@ pub enum Phase {
     Halted,
 }
 
-// What a call in turn goes on with.
+// What a controller is asked for. An advance is asked of the image, and is no matter of the phase.
 #[derive(Clone, Copy, PartialEq, Eq, Debug)]
-pub(crate) enum Turn {
+pub(crate) enum Request {
+    Load,
     Sample,
-    Work(u64),
-    Deliver(u64, Outcome),
+    Work,
+    Deliver,
     Abandon,
     Restart,
-    Advance,
+}
+
+// What a request in turn goes on with, and the phase that follows, if it is known by then.
+#[derive(Clone, Copy, PartialEq, Eq, Debug)]
+pub(crate) enum Turn {
+    // The image still has to give the frame.
+    Sample,
+    // The outcome of this frame still has to be found.
+    Work(u64),
+    // This phase follows if the image takes what the frame's outcome delivers.
+    Deliver(u64, Outcome, Phase),
+    // This phase follows.
+    Enter(Phase),
 }
