@@ -125,7 +125,7 @@ impl Controller {
         ensures rests { OffOrResting (by_words self.now.program) frame result }
         ensures chart_rests { (c : Chart) → CompiledFrom c self.now.program → OffOrResting (by_chart c) frame result }
     {
-        let _state = self.state;
+        let _active = self.state.active;
         match outcome.verdict {
             Verdict::Stable(_) => outcome.state.outputs(&self.program, frame),
             Verdict::Circling(..) | Verdict::Overlong => 0,
