@@ -1,3 +1,4 @@
 pub mod Working
 pub mod Stepping
 pub mod Resting
+pub mod Loading

@@ -1,5 +1,5 @@
 -- What each call answers, and what the controller then is. Assumes nothing.
-use Rattle.std.specs.Prelude.{◌≡◌, ℕ, List, if◌then◌else◌, Some, None, Option, Ok, Err, Result}
+use Rattle.std.specs.Prelude.{◌≡◌, ℕ, List, if◌then◌else◌, Some, None, Option, Ok, Err, Result, OnOk}
 use Rattle.faults.specs.declared.Fault.{Fault}
 use Rattle.faults.specs.declared.Fault.TheVariants.{Controller as OfController, File}
 use Rattle.faults.specs.declared.FileFault.{FileFault}
@@ -7,6 +7,7 @@ use Rattle.faults.specs.declared.ControllerFault.{ControllerFault}
 use Rattle.faults.specs.declared.ControllerFault.TheVariants.{ScanOpen}
 use Rattle.codefile.specs.File.{code_of}
 use Rattle.codefile.specs.Loads.{code_in}
+use Rattle.compile.specs.Laws.{ProgramOf}
 use Rattle.evolution.specs.declared.state.State.{State}
 use Rattle.verdict.specs.declared.outcome.Outcome.{Outcome}
 use Rattle.verdict.specs.declared.outcome.Verdict.{Verdict}
@@ -117,6 +118,11 @@ pub record Loaded (bytes : List ℕ) (c : Controller) : Type 0 where
   pub program : code_of bytes ≡ Ok (code_in c.program)
   pub previous : c.previous ≡ None
   pub phase : c.phase ≡ Idle
+
+-- the file of a text is refused with 21 alone; accepted, the controller has the program of the text
+pub record LoadsText (text : List ℕ) (s : Stage) (r : Result (Unit {0}) Fault) (c : Controller) : Type 0 where
+  pub refusal : fault_of r ≡ (if scan_open s then Some (OfController ScanOpen) else None)
+  pub program : OnOk r (ProgramOf text c.program)
 
 -- ---- the scan that is open
 abbrev pub open_scan : Phase → OpenScan

@@ -8,14 +8,8 @@ use Rattle.evolution.specs.Chart.{Chart, chart_of_lines}
 use Rattle.plain.specs.Behaviours.{by_chart}
 use Rattle.controller.specs.declared.controller.Controller.{Controller}
 use Rattle.controller.specs.Calls.{Loaded}
+use Rattle.controller.proofs.Loading.{program_of_file}
 use Rattle.running.specs.Texts.{ChartOf, BeginsWith}
-
-program_of_text : (text file : List ℕ) (n : ℕ) (c : Controller) → LoadsAs text n file → Loaded (take n file) c → ProgramOf text c.program
-program_of_text text file n c l k = record {
-  lines = l.lines;
-  passes = l.passes;
-  code = let same = sym k.program ∙ l.reads in cc;
-}
 
 -- the program of an accepted text is compiled from its chart
 pub compiled_from : (text : List ℕ) (p : Program) (c : Chart) → ProgramOf text p → ChartOf text c → CompiledFrom c p
@@ -26,7 +20,7 @@ compiled_from text p c m h =
 
 begins_with : (text file : List ℕ) (n : ℕ) (c : Controller) → LoadsAs text n file → Loaded (take n file) c → ((a : Chart) → CompiledFrom a c.program → c.state ≡ (by_chart a).begins) → BeginsWith text c
 begins_with text file n c l k b =
-    let program = program_of_text text file n c l k in record {
+    let program = program_of_file text (take n file) c l k in record {
       program = program;
       phase = k.phase;
       previous = k.previous;

@@ -1,8 +1,9 @@
 -- The chart of a text, and why a text is not run. Assumes nothing.
-use Rattle.std.specs.Prelude.{◌≡◌, ℕ, List, if◌then◌else◌, Some, None, Option, Ok, Err, Result}
+use Rattle.std.specs.Prelude.{◌≡◌, ◌≢◌, ℕ, List, if◌then◌else◌, Some, None, Option, Ok, Err, Result}
 use Rattle.faults.specs.declared.Fault.{Fault}
 use Rattle.faults.specs.declared.Fault.TheVariants.{Code, Controller as OfController}
 use Rattle.faults.specs.declared.CodeFault.{CodeFault}
+use Rattle.faults.specs.declared.CodeFault.TheVariants.{BufferTooShort}
 use Rattle.faults.specs.declared.ControllerFault.TheVariants.{ScanOpen}
 use Rattle.lines.specs.Grammar.{Tree}
 use Rattle.compile.specs.Compiled.{chart_of_text, compiled}
@@ -34,3 +35,7 @@ refusal_of (Err f) s = Some (Code f)
 -- why a text is not loaded by way of a buffer of this length, where the controller is at this stage
 abbrev pub text_refusal : List ℕ → ℕ → Stage → Option Fault
 text_refusal text room s = refusal_of (compiled text room) s
+
+-- the fault is not that the code file has no room
+abbrev pub HasRoom : Fault → Type 0
+HasRoom f = (needed : ℕ) → f ≢ Code (BufferTooShort needed)

@@ -2,7 +2,7 @@
 ghost use Rattle.std.specs.Prelude.{◌≡◌, List, ℕ, Ok as Accepted, min, length, take, IfOk, OnOk, OnErr};
 ghost use Rattle.codefile.specs.File.{code_of};
 ghost use Rattle.codefile.specs.Loads.{code_in};
-ghost use Rattle.compile.specs.Laws.{FileOf};
+ghost use Rattle.compile.specs.Compiled.{compiled};
 ghost use Rattle.evolution.specs.Chart.{Chart};
 ghost use Rattle.plain.specs.Behaviours.{by_words, by_chart};
 ghost use Rattle.plain.specs.Campaigns.{Campaign};
@@ -32,7 +32,7 @@ pub fn campaign_of_file<I: Image>(
     ensures program { OnOk result (code_of file.now ≡ Accepted (code_in controller.new.program)) }
     ensures words { IfOk result (λ f. Campaign I.meaning I.becomes (by_words controller.new.program) image.old
         (take f.made calls.now) log.old log.new (standing controller.new (I.meaning image.new).outputs) image.new) }
-    ensures chart { (text : List ℕ) (c : Chart) → FileOf text file.now → ChartOf text c →
+    ensures chart { (text : List ℕ) (room : ℕ) (c : Chart) → compiled text room ≡ Accepted file.now → ChartOf text c →
         IfOk result (λ f. Campaign I.meaning I.becomes (by_chart c) image.old
         (take f.made calls.now) log.old log.new (standing controller.new (I.meaning image.new).outputs) image.new) }
 {

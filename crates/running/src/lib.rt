@@ -2,5 +2,6 @@
 #![tactic(auto)]
 
 pub mod call_list;
+pub mod code_file;
 mod load;
 pub mod runner;

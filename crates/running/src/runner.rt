@@ -1,5 +1,6 @@
 //! A controller that is given its charts as texts.
-ghost use Rattle.std.specs.Prelude.{◌≡◌, ℕ, false, min, length, take, IfOk, OnOk, OnErr, vec_len};
+ghost use Rattle.std.specs.Prelude.{◌≡◌, ℕ, false, min, length, take, IfOk, IfErr, OnOk, OnErr, vec_len};
+ghost use Rattle.codefile.specs.Format.{longest_file};
 ghost use Rattle.compile.specs.Laws.{ProgramOf};
 ghost use Rattle.evolution.specs.Chart.{Chart};
 ghost use Rattle.plain.specs.Behaviours.{by_chart};
@@ -8,10 +9,11 @@ ghost use Rattle.plain.specs.Charts.{Plain};
 ghost use Rattle.plain.specs.Stages.{scan_open};
 ghost use Rattle.controller.specs.Standing.{stage_of, standing, Fresh};
 ghost use Rattle.controller.specs.Calls.{fault_of, open_scan};
-ghost use Rattle.running.specs.Texts.{BeginsWith, ChartOf, text_refusal};
+ghost use Rattle.running.specs.Texts.{BeginsWith, ChartOf, text_refusal, HasRoom};
 ghost use Rattle.running.specs.Endings.{ended};
 
 use crate::load::load_text;
+use codefile::format::LONGEST_FILE;
 use compile::compiler::Compiler;
 use controller::campaign::{Finished, campaign};
 use controller::closing::close;
@@ -22,16 +24,13 @@ use image::Image;
 use plain::calls::{Call, Entry};
 use std::alloc::{AllocError, Global};
 
-// The length of the longest code file: 44 bytes and 4,096 words.
-const LONGEST_FILE: usize = 16428;
-
 /// A controller, and what gives it a chart: a compiler, and room for the code file.
 #[derive(Drop)]
 pub struct Runner {
     pub controller: Controller,
     compiler: Compiler,
     file: Vec<u8>,
-    ghost room: { vec_len file ≡ 16428 },
+    ghost room: { vec_len file ≡ longest_file },
 }
 
 impl Runner {
@@ -48,7 +47,8 @@ impl Runner {
 
     /// Compiles a chart text, loads its code file into the controller, and begins with it.
     pub fn load(&mut self, text: &[u8]) -> Result<(), Fault>
-        ensures fault { fault_of result ≡ text_refusal text.now 16428 (stage_of self.old.controller.phase) }
+        ensures fault { fault_of result ≡ text_refusal text.now longest_file (stage_of self.old.controller.phase) }
+        ensures room { IfErr result HasRoom }
         ensures loaded { OnOk result (BeginsWith text.now self.new.controller) }
         ensures refused { OnErr result (self.new.controller ≡ self.old.controller) }
     {
@@ -68,7 +68,8 @@ impl Runner {
         calls: &[Call],
         log: &mut [Entry],
     ) -> Result<Finished, Fault>
-        ensures fault { fault_of result ≡ text_refusal text.now 16428 (stage_of self.old.controller.phase) }
+        ensures fault { fault_of result ≡ text_refusal text.now longest_file (stage_of self.old.controller.phase) }
+        ensures room { IfErr result HasRoom }
         ensures refused { OnErr result ((self.new.controller ≡ self.old.controller) × (image.new ≡ image.old) × (log.new ≡ log.old)) }
         ensures count { IfOk result (λ f. f.made ≡ min (length calls.now) (length log.old)) }
         ensures scan { IfOk result (λ f. f.scan ≡ open_scan self.new.controller.phase) }
@@ -103,7 +104,8 @@ impl Runner {
         calls: &[Call],
         log: &mut [Entry],
     ) -> Result<usize, Fault>
-        ensures fault { fault_of result ≡ text_refusal text.now 16428 (stage_of self.old.controller.phase) }
+        ensures fault { fault_of result ≡ text_refusal text.now longest_file (stage_of self.old.controller.phase) }
+        ensures room { IfErr result HasRoom }
         ensures refused { OnErr result ((self.new.controller ≡ self.old.controller) × (image.new ≡ image.old) × (log.new ≡ log.old)) }
         ensures count { IfOk result (λ n. n ≡ min (length calls.now) (length log.old)) }
         ensures closed { OnOk result (scan_open (stage_of self.new.controller.phase) ≡ false) }
