@@ -18,9 +18,9 @@ use Rattle.controller.specs.Standing.{standing}
 use Rattle.controller.specs.Calls.{landed, open_scan}
 use Rattle.controller.specs.declared.scans.OpenScan.TheVariants.{Nothing}
 use Rattle.controller.specs.declared.controller.Controller.{Controller}
+use Rattle.controller.proofs.Resting.{at_rest}
 use Rattle.callers.specs.Restarts.{restarted, FoundAndDelivered}
 use Rattle.callers.proofs.Alike.{same_controller}
-use Rattle.callers.proofs.Scanning.{at_rest}
 use Rattle.callers.proofs.Calling.{Made, made, second_entry}
 
 -- a carriage's own rule

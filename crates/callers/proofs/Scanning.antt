@@ -1,18 +1,15 @@
 -- A scan, from its sample to its delivery. Assumes nothing.
-use Rattle.std.proofs.Common.{◌≡◌, ℕ, Option, ◌∙◌, refl, sym, ap, subst, subst₂}
-use Rattle.frames.specs.Edges.{edges_between}
+use Rattle.std.proofs.Common.{◌≡◌, ℕ, ◌∙◌, refl, ap, subst}
 use Rattle.evolution.specs.declared.state.State.{State}
-use Rattle.verdict.specs.declared.outcome.Outcome.{Outcome}
 use Rattle.verdict.specs.declared.outcome.Verdict.{Verdict}
 use Rattle.verdict.specs.declared.outcome.Verdict.TheVariants.{Stable, Circling, Overlong}
-use Rattle.verdict.specs.Scans.{states, settled}
 use Rattle.plain.specs.Behaviours.{Behaviour}
-use Rattle.plain.specs.Charts.{ComesTo, brought, delivered_frame}
 use Rattle.controller.specs.Calls.{in_phase, WorkedAs, due, landed, delivered}
 use Rattle.controller.specs.declared.phase.Phase.{Phase}
 use Rattle.controller.specs.declared.phase.Phase.TheVariants.{Sampled, Worked}
 use Rattle.controller.specs.declared.controller.Controller.{Controller}
-use Rattle.callers.specs.Scans.{Opened, Cycled, AtRest}
+use Rattle.controller.proofs.Resting.{at_rest}
+use Rattle.callers.specs.Scans.{Opened, Cycled}
 
 -- sampled, and then worked
 pub opened : {b : Behaviour} {c d e : Controller} {frame : ℕ} {v : Verdict} → d ≡ in_phase (Sampled frame) c → WorkedAs b d.phase d v e → Opened b c frame v e
@@ -25,19 +22,6 @@ landed_from : (v : Verdict) (s : State) (frame : ℕ) (p : Phase) (c : Controlle
 landed_from (Stable m) s frame p c = refl
 landed_from (Circling j k) s frame p c = refl
 landed_from Overlong s frame p c = refl
-
--- what a delivery leaves is at rest
-rest_of : (b : Behaviour) (c : Controller) (s : State) (previous : Option ℕ) (frame : ℕ) (o : Outcome) (v : Verdict) → v ≡ o.verdict → ComesTo b s previous frame o → AtRest b (landed v o.state frame c) frame (brought (b.shows frame) v o.state)
-rest_of b c s previous frame o (Stable m) e h =
-    let first = (h.verdict.is_stable m).0 (sym e) in
-    let settles = h.state ∙ ap (λ v. settled v (states (b.rules frame) (edges_between previous frame) s)) (sym e) in
-    (ap (b.rules frame).stable settles ∙ first.is_stable, refl)
-rest_of b c s previous frame o (Circling j k) e h = refl
-rest_of b c s previous frame o Overlong e h = refl
-
-pub at_rest : (b : Behaviour) (c d : Controller) (s : State) (previous : Option ℕ) (frame outputs : ℕ) (o : Outcome) → ComesTo b s previous frame o → d ≡ landed o.verdict o.state frame c → outputs ≡ delivered_frame b frame o → AtRest b d frame outputs
-at_rest b c d s previous frame outputs o h e shown =
-    subst₂ (λ x y. AtRest b x frame y) (sym e) (sym shown) (rest_of b c s previous frame o o.verdict refl h)
 
 -- and then delivered
 pub cycled : {b : Behaviour} {c d e : Controller} {frame : ℕ} {v : Verdict} {outputs : ℕ} → Opened b c frame v d → e ≡ delivered d.phase d → outputs ≡ due b d.phase → Cycled b c frame v e outputs

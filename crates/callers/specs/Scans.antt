@@ -1,15 +1,14 @@
 -- What a caller learns of a scan. Assumes nothing.
-use Rattle.std.specs.Prelude.{◌≡◌, ℕ, true}
+use Rattle.std.specs.Prelude.{◌≡◌, ℕ}
 use Rattle.image.specs.Meaning.{Touch, sampling, delivering}
-use Rattle.evolution.specs.declared.state.State.{State}
 use Rattle.verdict.specs.declared.outcome.Outcome.{Outcome}
 use Rattle.verdict.specs.declared.outcome.Verdict.{Verdict}
 use Rattle.plain.specs.Behaviours.{Behaviour}
 use Rattle.plain.specs.Charts.{ComesTo, delivered_frame}
-use Rattle.controller.specs.declared.phase.Phase.{Phase}
-use Rattle.controller.specs.declared.phase.Phase.TheVariants.{Idle, Sampled, Worked, Halted}
+use Rattle.controller.specs.declared.phase.Phase.TheVariants.{Worked}
 use Rattle.controller.specs.declared.controller.Controller.{Controller}
 use Rattle.controller.specs.Calls.{in_phase, landed}
+use Rattle.controller.specs.Resting.{AtRest}
 
 -- from the state and the previous frame of a controller, this frame comes to this verdict
 abbrev pub FoundBy : Behaviour → Controller → ℕ → Verdict → Type 0
@@ -21,17 +20,6 @@ pub record Opened (b : Behaviour) (c : Controller) (frame : ℕ) (v : Verdict) (
   pub comes : ComesTo b c.state c.previous frame outcome
   pub verdict : v ≡ outcome.verdict
   pub controller : d ≡ in_phase (Worked frame outcome) c
-
--- the outputs are those of a state that is stable under the frame, and the controller rests in it; or it is halted, and they
--- are all off
-abbrev pub RestsIn : Behaviour → Phase → State → ℕ → ℕ → Type 0
-RestsIn b Idle s frame outputs = ((b.rules frame).stable s ≡ true) × (outputs ≡ b.shows frame s)
-RestsIn b (Sampled sampled) s frame outputs = ⊥
-RestsIn b (Worked worked o) s frame outputs = ⊥
-RestsIn b Halted s frame outputs = outputs ≡ 0
-
-abbrev pub AtRest : Behaviour → Controller → ℕ → ℕ → Type 0
-AtRest b c frame outputs = RestsIn b c.phase c.state frame outputs
 
 -- and the scan is delivered: the controller c becomes d, and these are the outputs then
 pub record Cycled (b : Behaviour) (c : Controller) (frame : ℕ) (v : Verdict) (d : Controller) (outputs : ℕ) : Type 0 where

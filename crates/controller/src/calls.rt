@@ -11,7 +11,7 @@ ghost use Rattle.plain.specs.declared.calls.Call.TheVariants as call;
 ghost use Rattle.controller.specs.Standing.{stage_of};
 ghost use Rattle.controller.specs.Calls.{fault_of, held_fault, turn_fault, judged_as, GoesOn, in_phase};
 ghost use Rattle.controller.specs.Calls.{begun_from, WorkedAs, due, delivered, landed};
-ghost use Rattle.controller.specs.Resting.{OffOrResting, OffOrAtRest};
+ghost use Rattle.controller.specs.Resting.{LeftAtRest};
 
 use crate::controller::Controller;
 use crate::phase::{Phase, Request, Turn};
@@ -116,20 +116,30 @@ impl Controller {
         }
     }
 
-    // The frame that the delivery of the open scan brings to the image.
+    // The frame that the delivery of this outcome brings to the image.
+    fn brought(&self, frame: u64, outcome: Outcome) -> u64
+        ensures words { result ≡ delivered_frame (by_words self.now.program) frame outcome }
+        ensures chart { (c : Chart) → CompiledFrom c self.now.program →
+            result ≡ delivered_frame (by_chart c) frame outcome }
+    {
+        match outcome.verdict {
+            Verdict::Stable(_) => outcome.state.outputs(&self.program, frame),
+            Verdict::Circling(..) | Verdict::Overlong => 0,
+        }
+    }
+
+    // The frame that the delivery of the open scan brings. Its outcome is still what the frame comes to.
     fn due(&self, frame: u64, outcome: Outcome) -> u64
         requires { self.now.phase ≡ Phase.Worked frame outcome }
         ensures words { result ≡ delivered_frame (by_words self.now.program) frame outcome }
         ensures chart { (c : Chart) → CompiledFrom c self.now.program →
             result ≡ delivered_frame (by_chart c) frame outcome }
-        ensures rests { OffOrResting (by_words self.now.program) frame result }
-        ensures chart_rests { (c : Chart) → CompiledFrom c self.now.program → OffOrResting (by_chart c) frame result }
+        ensures comes { ComesTo (by_words self.now.program) self.now.state self.now.previous frame outcome }
+        ensures chart_comes { (c : Chart) → CompiledFrom c self.now.program →
+            ComesTo (by_chart c) self.now.state self.now.previous frame outcome }
     {
         let _active = self.state.active;
-        match outcome.verdict {
-            Verdict::Stable(_) => outcome.state.outputs(&self.program, frame),
-            Verdict::Circling(..) | Verdict::Overlong => 0,
-        }
+        self.brought(frame, outcome)
     }
 
     // A scan has been delivered.
@@ -154,9 +164,9 @@ impl Controller {
         ensures words { IfOk result (λ frame. frame ≡ due (by_words self.old.program) self.old.phase) }
         ensures chart { (c : Chart) → CompiledFrom c self.old.program →
             IfOk result (λ frame. frame ≡ due (by_chart c) self.old.phase) }
-        ensures rests { IfOk result (λ outputs. OffOrAtRest (by_words self.old.program) self.old.phase outputs) }
+        ensures rests { IfOk result (λ outputs. LeftAtRest (by_words self.old.program) self.old.phase self.new outputs) }
         ensures chart_rests { (c : Chart) → CompiledFrom c self.old.program →
-            IfOk result (λ outputs. OffOrAtRest (by_chart c) self.old.phase outputs) }
+            IfOk result (λ outputs. LeftAtRest (by_chart c) self.old.phase self.new outputs) }
         ensures controller { OnOk result (self.new ≡ delivered self.old.phase self.old) }
         ensures refused { IfErr result (λ h. (self.new ≡ self.old) × (h.scan ≡ scan)) }
         ensures shown { IfOk result (λ frame. I.meaning image.new ≡ showing frame (I.meaning image.old)) }

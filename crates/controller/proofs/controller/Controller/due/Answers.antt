@@ -1,22 +1,15 @@
-use Rattle.std.proofs.Common.{◌≡◌, ◌<◌, ◌^◌, sym, ap, ◌∙◌, subst, rules}
+use Rattle.std.proofs.Common.{◌<◌, ◌^◌, sym, ap, ◌∙◌, subst, rules}
 use Rattle.evolution.specs.Agreement.{CompiledFrom}
-use Rattle.plain.specs.Behaviours.{by_words, by_chart}
-use Rattle.plain.specs.Charts.{ComesTo, brought}
-use Rattle.controller.specs.Calls.{in_phase}
+use Rattle.verdict.proofs.Scanning.{by_chart_too}
+use Rattle.plain.specs.Behaviours.{by_chart}
+use Rattle.plain.specs.Charts.{ComesTo}
 use Rattle.controller.specs.Parts.{OutcomeHolds}
-use Rattle.controller.specs.Resting.{OffOrResting}
-use Rattle.controller.specs.declared.phase.Phase.TheVariants.{Worked}
-use Rattle.controller.proofs.Resting.{resting_by_chart}
 use Rattle.controller.proofs.controller.Controller.due.Goals as goal
 
-pub returns-in-Stable-clause-chart_rests : goal.returns-in-Stable-clause-chart_rests
-returns-in-Stable-clause-chart_rests c =
-    λ k f.
-    let now = c.args.self.now in
-    let o = c.args.outcome in
-    let fits : c.self.inside.state.active < 2 ^ 64 = search rules in
-    let holds = subst (OutcomeHolds c.self.inside.program c.self.inside.state c.self.inside.previous) (ap (λ x. x.phase) c.self.view_is ∙ c.requires) c.self.invariant in
-    let g = subst (λ x. CompiledFrom k x.program) (sym c.self.view_is) f in
-    subst (OffOrResting (by_chart k) c.args.frame)
-    (sym (c.outputs.ensures.chart k g ∙ sym (ap (λ v. brought ((by_chart k).shows c.args.frame) v o.state) c.in-Stable.is)))
-    (resting_by_chart c.self.inside.program k c.self.inside.state c.self.inside.previous c.args.frame o g fits holds)
+pub returns-clause-chart_comes : goal.returns-clause-chart_comes
+returns-clause-chart_comes c =
+    let i = c.self.inside in
+    let fits : i.state.active < 2 ^ 64 = search rules in
+    let holds = subst (OutcomeHolds i.program i.state i.previous) (ap (λ x. x.phase) c.self.view_is ∙ c.requires) c.self.invariant in
+    λ k. subst (λ x. CompiledFrom k x.program → ComesTo (by_chart k) x.state x.previous c.args.frame c.args.outcome) c.self.view_is
+    (by_chart_too i.program c.args.frame _ i.state c.args.outcome fits holds k)
