@@ -33,7 +33,7 @@ fn phase_after(verdict: Verdict) -> Phase
 }
 
 impl Controller {
-    // The phase and the request together: what the call goes on with, or its refusal.
+    // What a request goes on with in this phase, or its refusal.
     pub(crate) fn judged(&self, request: Request) -> Result<Turn, ControllerFault>
         ensures fault { turn_fault result ≡ out_of_turn (judged_as request) (stage_of self.now.phase) }
         ensures turn { IfOk result (λ t. GoesOn t request self.now) }
@@ -58,7 +58,7 @@ impl Controller {
         }
     }
 
-    /// Takes the inputs of the image as the frame of a new scan.
+    /// Samples the image: its inputs are the frame of a new scan. Refused with 21, 22 or 24 (docs/controller.md).
     pub fn sample<I: Image>(&mut self, image: &mut I) -> Result<SampledScan, Fault>
         ensures fault { fault_of result ≡ why call.Sample (stage_of self.old.phase) (I.meaning image.old).live }
         ensures scan { IfOk result (λ s. s.frame ≡ (I.meaning image.old).inputs) }
@@ -94,7 +94,8 @@ impl Controller {
         outcome.verdict
     }
 
-    /// Forms the verdict on the open frame. The state stays as it is.
+    /// Works the open frame, and answers the verdict; nothing of it shows before the delivery. Refused with 23
+    /// (docs/controller.md), and the token comes back.
     pub fn work(&mut self, scan: SampledScan) -> Result<(Verdict, WorkedScan), Held<SampledScan>>
         ensures fault { held_fault result ≡ phase_refusal call.Work (stage_of self.old.phase) }
         ensures words { IfOk result (λ r. WorkedAs (by_words self.old.program) self.old.phase self.old r.0 self.new) }
@@ -154,7 +155,8 @@ impl Controller {
         }
     }
 
-    /// Delivers the scan to the image, and answers the frame: the output frame of a stable state, and otherwise no output.
+    /// Delivers the open scan, and answers the frame that the image was given: the output frame of the state in which it rests, or
+    /// 0, and then the controller is halted. Refused with 23 or 24 (docs/controller.md), and the token comes back.
     pub fn deliver<I: Image>(
         &mut self,
         image: &mut I,
@@ -197,7 +199,8 @@ impl Controller {
         Ok(outputs)
     }
 
-    /// Gives the scan up: nothing is left of it in the controller.
+    /// Drops the open scan, of which nothing is left in the controller. Refused with 23 (docs/controller.md), and the token comes
+    /// back.
     pub fn abandon(&mut self, scan: WorkedScan) -> Result<(), Held<WorkedScan>>
         ensures fault { held_fault result ≡ phase_refusal call.Abandon (stage_of self.old.phase) }
         ensures controller { OnOk result (self.new ≡ in_phase Phase.Idle self.old) }
@@ -229,7 +232,7 @@ impl Controller {
         self.phase = next;
     }
 
-    /// Goes back to the start state of the program, before any frame.
+    /// Begins the program anew: its start state, and no previous frame. Refused with 21 (docs/controller.md).
     pub fn restart(&mut self) -> Result<(), Fault>
         ensures fault { fault_of result ≡ phase_refusal call.Restart (stage_of self.old.phase) }
         ensures words { OnOk result (self.new ≡ begun_from (by_words self.old.program).begins self.old) }

@@ -1,4 +1,4 @@
-//! Campaigns: any list of calls, made of one controller and its image. See docs/plain-chart.md.
+//! Campaigns: lists of calls to a controller and to its image. See docs/plain-chart.md.
 ghost use Rattle.std.specs.Prelude.{◌≡◌, not, min, length, take, is_ok, IfOk, IfErr};
 ghost use Rattle.evolution.specs.Agreement.{CompiledFrom};
 ghost use Rattle.evolution.specs.Chart.{Chart};
@@ -39,7 +39,8 @@ fn spent_worked(held: Held<WorkedScan>) -> Fault
     fault
 }
 
-// One call. A scan names no controller, so each call is made with a scan that is written here for it, also out of turn.
+// One call. A controller goes by its phase and not by the token, so a token is made here for each call that wants one, also out
+// of turn.
 fn make<I: Image>(controller: &mut Controller, image: &mut I, call: Call) -> Answer
     ensures program { controller.new.program ≡ controller.old.program }
     ensures words { Makes I.meaning I.becomes (by_words controller.old.program) call controller.old image.old result
@@ -108,8 +109,8 @@ fn open_scan(controller: &Controller) -> OpenScan
     }
 }
 
-/// Restarts the controller, makes as many of the calls as the log has room for, and writes each down. The image gets no call
-/// but these, and nothing is allocated.
+/// Restarts the controller, makes as many of the calls as the log has room for, and writes each down. Nothing else is
+/// asked of the image, and nothing is allocated. Refused with 21 (docs/controller.md).
 pub fn campaign<I: Image>(
     controller: &mut Controller,
     image: &mut I,

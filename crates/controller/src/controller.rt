@@ -59,7 +59,7 @@ impl Controller {
         self.state
     }
 
-    /// The frame of the last stable scan that was delivered since the start, if there is one.
+    /// The frame of the last stable scan that was delivered since the start, if there is one: edges are judged against it.
     pub fn previous(&self) -> Option<u64>
         ensures { result ≡ self.now.previous }
     {

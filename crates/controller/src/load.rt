@@ -12,7 +12,8 @@ use crate::phase::{Request, Turn};
 use faults::Fault;
 
 impl Controller {
-    /// Takes the program of a code file and begins with it, or names why not and changes nothing.
+    /// Tests a code file, takes its program and begins with it. Refused with 21 (docs/controller.md), or with 14 to 19
+    /// (docs/code-file.md) and all as it was.
     pub fn load(&mut self, bytes: &[u8]) -> Result<(), Fault>
         ensures fault { fault_of result ≡ load_refusal (stage_of self.old.phase) bytes.now }
         ensures loaded { OnOk result (Loaded bytes.now self.new) }

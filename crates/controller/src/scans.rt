@@ -1,11 +1,11 @@
-//! Scan tokens. `sample` makes a sampled scan; `work` takes it and makes a worked one; `deliver` and `abandon` take that. A
-//! campaign makes the token of a call that is out of turn, and takes it back. All of them do so by the functions of this
+//! Scan tokens. `sample` makes the first, `work` turns it into the second, and `deliver` or `abandon` takes that. A campaign
+//! makes a token for each call that wants one, also out of turn, and takes it back. They all do so by the functions of this
 //! file: no other code can make a token or take one apart.
 ghost use Rattle.std.specs.Prelude.{◌≡◌};
 
 use faults::Fault;
 
-/// A frame that was sampled: only work takes it.
+/// Allows one `work`.
 pub struct SampledScan {
     frame: u64,
 }
@@ -25,7 +25,7 @@ impl SampledScan {
     }
 }
 
-/// A frame that was worked: deliver or abandon takes it.
+/// Allows one `deliver` or one `abandon`.
 pub struct WorkedScan {
     frame: u64,
 }
@@ -45,13 +45,13 @@ impl WorkedScan {
     }
 }
 
-/// A refused call gives its scan back.
+/// A refused call: its token, handed back, and the fault.
 pub struct Held<T> {
     pub scan: T,
     pub fault: Fault,
 }
 
-/// The scan that is open, if there is one.
+/// The token of the open scan, if a scan is open.
 pub enum OpenScan {
     Nothing,
     Sampled(SampledScan),
