@@ -3,7 +3,7 @@
 use crate::compiling::print_compiled;
 use crate::example::{FRAMES, TEXT, TURNS, WRONG, print_text};
 use crate::failure::Failure;
-use crate::showing_campaigns::show_campaigns;
+use crate::showing_campaigns::{show_carriage, show_trace};
 use codefile::format::LONGEST_FILE;
 use codefile::program::Program;
 use compile::compiler::Compiler;
@@ -121,6 +121,7 @@ fn go_through(
 ) -> Result<(), Failure> {
     let length = compiler.build(TEXT.as_bytes(), buffer, program)?;
     show_program(rt, program, controller, &buffer[..length])?;
+    show_trace(rt, controller, &buffer[..length])?;
     try_damages(rt, program, &buffer[..length])?;
     try_texts(rt, compiler, buffer)?;
     try_turns(rt, compiler, buffer, controller)
@@ -147,5 +148,5 @@ pub fn run(rt: &HostRuntime) -> Result<(), Failure> {
     println!(rt; "The chart:")?;
     print_text(rt, TEXT)?;
     set_out(rt)?;
-    show_campaigns(rt)
+    show_carriage(rt)
 }

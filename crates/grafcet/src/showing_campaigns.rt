@@ -1,14 +1,17 @@
 //! Campaigns of two charts.
 use crate::campaigning::{UNWRITTEN, print_log};
-use crate::example::{TEXT, print_text};
+use crate::example::print_text;
 use crate::failure::Failure;
 use callers::carriages::drive;
 use callers::task::scan_task;
+use controller::campaign::Finished;
+use controller::closing::close;
 use controller::controller::Controller;
 use image::Image;
 use image::carriage::Carriage;
 use image::frame_list::FrameList;
-use plain::calls::Call;
+use plain::calls::{Call, Entry};
+use running::code_file::campaign_of_file;
 use running::runner::Runner;
 use showing::scans::Named;
 use std::io;
@@ -39,17 +42,36 @@ const SHOWN: [(usize, u32); 7] = [
     (0, 201),
 ];
 
-fn show_trace(rt: &HostRuntime, runner: &mut Runner) -> Result<(), Failure> {
-    println!(rt; "\nA campaign of the first chart, over a trace of the frames 0, 1, 2 and 3:")?;
+// A campaign of a code file, up to the end of its last scan.
+fn run_file<I: Image>(
+    controller: &mut Controller,
+    file: &[u8],
+    image: &mut I,
+    calls: &[Call],
+    log: &mut [Entry],
+) -> Result<(), Failure> {
+    let outcome = campaign_of_file(controller, file, image, calls, log);
+    let Finished { made: _, scan } = outcome.map_err(Failure::Refused)?;
+    match close(controller, scan) {
+        Ok(()) => Ok(()),
+        Err(_) => unreachable!(),
+    }
+}
+
+/// A campaign of a code file, over a trace.
+pub fn show_trace(
+    rt: &HostRuntime,
+    controller: &mut Controller,
+    file: &[u8],
+) -> Result<(), Failure> {
+    println!(rt; "\nA campaign of the code file, over a trace of the frames 0, 1, 2 and 3:")?;
     let mut calls = [Call::Advance; 16];
     for (k, call) in calls.iter_mut().enumerate() {
         *call = ROUND[k % 4];
     }
     let mut log = [UNWRITTEN; 16];
     let mut list = FrameList::new(TRACE).unwrap();
-    runner
-        .run_calls(TEXT.as_bytes(), &mut list, &calls, &mut log)
-        .map_err(Failure::Refused)?;
+    run_file(controller, file, &mut list, &calls, &mut log)?;
     print_log(rt, "    ", &calls, &log)?;
     Ok(())
 }
@@ -97,22 +119,17 @@ fn drive_to_and_fro(
     Ok(())
 }
 
-fn show_carriage(rt: &HostRuntime, runner: &mut Runner) -> Result<(), Failure> {
+fn show_shuttle(rt: &HostRuntime, runner: &mut Runner) -> Result<(), Failure> {
     println!(rt; "\nA chart that drives a carriage to and fro:")?;
     print_text(rt, SHUTTLE)?;
     runner.load(SHUTTLE.as_bytes()).map_err(Failure::Refused)?;
     drive_to_and_fro(rt, &mut runner.controller, &mut Carriage::new())
 }
 
-fn show_both(rt: &HostRuntime, runner: &mut Runner) -> Result<(), Failure> {
-    show_trace(rt, runner)?;
-    show_carriage(rt, runner)
-}
-
-/// A campaign over a trace, and scans of a carriage.
-pub fn show_campaigns(rt: &HostRuntime) -> Result<(), Failure> {
+/// Scans of a carriage.
+pub fn show_carriage(rt: &HostRuntime) -> Result<(), Failure> {
     let mut runner = Runner::new(rt.alloc())?;
-    let outcome = show_both(rt, &mut runner);
+    let outcome = show_shuttle(rt, &mut runner);
     drop(runner);
     outcome
 }
