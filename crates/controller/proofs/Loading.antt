@@ -1,5 +1,5 @@
 -- A controller that the file of a text was loaded into. Assumes nothing.
-use Rattle.std.proofs.Common.{◌≡◌, ℕ, List, if◌then◌else◌, Some, None, Ok, Err, Result, OnOk, refl, sym, ap, ◌∙◌}
+use Rattle.std.proofs.Common.{◌≡◌, ℕ, List, if◌then◌else◌, Some, Ok, Err, Result, OnOk, sym, ap, ◌∙◌}
 use Rattle.faults.specs.declared.Fault.{Fault}
 use Rattle.faults.specs.declared.Fault.TheVariants.{Controller as OfController}
 use Rattle.faults.specs.declared.ControllerFault.TheVariants.{ScanOpen}

@@ -11,7 +11,6 @@ use Rattle.compile.specs.Laws.{ProgramOf}
 use Rattle.evolution.specs.declared.state.State.{State}
 use Rattle.verdict.specs.declared.outcome.Outcome.{Outcome}
 use Rattle.verdict.specs.declared.outcome.Verdict.{Verdict}
-use Rattle.verdict.specs.declared.outcome.Verdict.TheVariants.{Stable, Circling, Overlong}
 use Rattle.plain.specs.declared.calls.Call.{Call}
 use Rattle.plain.specs.declared.calls.Call.TheVariants as call
 use Rattle.plain.specs.Behaviours.{Behaviour}

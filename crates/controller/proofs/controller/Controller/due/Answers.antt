@@ -1,4 +1,4 @@
-use Rattle.std.proofs.Common.{◌<◌, ◌^◌, sym, ap, ◌∙◌, subst, rules}
+use Rattle.std.proofs.Common.{◌<◌, ◌^◌, ap, ◌∙◌, subst, rules}
 use Rattle.evolution.specs.Agreement.{CompiledFrom}
 use Rattle.verdict.proofs.Scanning.{by_chart_too}
 use Rattle.plain.specs.Behaviours.{by_chart}
