@@ -23,8 +23,8 @@ pub struct Stopped {
     pub fault: Fault,
 }
 
-/// One scan, and its verdict. Then the image goes on.
-pub fn round<I: Image>(controller: &mut Controller, image: &mut I) -> Result<Verdict, Fault>
+// One scan, and its verdict. Then the image goes on.
+fn round<I: Image>(controller: &mut Controller, image: &mut I) -> Result<Verdict, Fault>
     ensures fault { fault_of result ≡ why Sample (stage_of controller.old.phase) (I.meaning image.old).live }
     ensures words { IfOk result (λ v. Round I.meaning I.becomes (by_words controller.old.program) controller.old image.old v
         controller.new image.new) }
