@@ -5,6 +5,7 @@ ghost use Rattle.controller.specs.Standing.{stage_of};
 
 use crate::charts::*;
 use callers::carriages::drive;
+use codefile::format::LONGEST_FILE;
 use controller::controller::Controller;
 use controller::scans::{Held, SampledScan};
 use faults::{ControllerFault, Fault};
@@ -71,7 +72,7 @@ fn load_with_a_scan_open(
 
 #[test]
 fn a_load_while_a_scan_is_open(rt: HostRuntime) -> Result<(), Fail> {
-    let mut buffer = [0u8; 16428];
+    let mut buffer = [0u8; LONGEST_FILE];
     let length = file_of(&rt, rt.alloc(), TWO_STEPS, &mut buffer)?;
     let mut controller = controller_of(&rt, rt.alloc(), SHUTTLE)?;
     let file = buffer.get(..length).unwrap_or(&[]);
@@ -82,7 +83,7 @@ fn a_load_while_a_scan_is_open(rt: HostRuntime) -> Result<(), Fail> {
 
 #[test]
 fn a_load_when_halted(rt: HostRuntime) -> Result<(), Fail> {
-    let mut buffer = [0u8; 16428];
+    let mut buffer = [0u8; LONGEST_FILE];
     let length = file_of(&rt, rt.alloc(), SHUTTLE, &mut buffer)?;
     let mut controller = controller_of(&rt, rt.alloc(), TURNING)?;
     let mut carriage = Carriage::new();

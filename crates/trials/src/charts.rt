@@ -1,4 +1,5 @@
 //! Charts, the controllers that run them, and what campaigns come to.
+use codefile::format::LONGEST_FILE;
 use compile::compiler::Compiler;
 use controller::campaign::{Finished, campaign};
 use controller::closing::close;
@@ -66,7 +67,7 @@ pub(crate) fn controller_of(
     heap: Global,
     text: &[u8],
 ) -> Result<Controller, Fail> {
-    let mut buffer = [0u8; 16428];
+    let mut buffer = [0u8; LONGEST_FILE];
     let length = file_of(rt, heap, text, &mut buffer)?;
     let mut controller = Controller::new(heap)?;
     let answer = controller.load(buffer.get(..length).unwrap_or(&[]));

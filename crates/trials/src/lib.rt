@@ -7,3 +7,5 @@ mod by_hand;
 mod campaigns;
 #[cfg(test)]
 mod charts;
+#[cfg(test)]
+mod tasks;
