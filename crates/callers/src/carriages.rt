@@ -21,7 +21,7 @@ use image::carriage::Carriage;
 use plain::calls::{Answer, Call, Entry};
 use verdict::outcome::Verdict;
 
-/// One scan, and its verdict. Then the carriage moves.
+/// One scan, and its verdict. Then the carriage moves. Refused with 21 or 22 (docs/controller.md); then it stays where it is.
 pub fn drive(controller: &mut Controller, carriage: &mut Carriage) -> Result<Verdict, Fault>
     ensures fault { fault_of result ≡ phase_refusal Sample (stage_of controller.old.phase) }
     ensures words { IfOk result (λ v. Cycled (by_words controller.old.program) controller.old (sensors carriage.old.position) v
@@ -63,7 +63,7 @@ fn first_scan(
     }
 }
 
-/// The first scan of a restarted controller, and its verdict. Then the carriage moves.
+/// The first scan of a restarted controller, and its verdict. Then the carriage moves. Refused with 21 (docs/controller.md).
 pub fn first_drive(controller: &mut Controller, carriage: &mut Carriage) -> Result<Verdict, Fault>
     ensures fault { fault_of result ≡ phase_refusal Restart (stage_of controller.old.phase) }
     ensures words { IfOk result (λ v. Cycled (by_words controller.old.program)

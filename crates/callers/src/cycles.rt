@@ -37,7 +37,8 @@ fn begin<I: Image>(
     }
 }
 
-/// The verdict on the frame that the image has now. The scan is abandoned, and the controller stays as it is.
+/// The verdict on the frame that the image has now; the scan is dropped, and the controller stays as it is. Refused as sample is,
+/// with 21, 22 or 24 (docs/controller.md).
 pub fn glance<I: Image>(controller: &mut Controller, image: &mut I) -> Result<Verdict, Fault>
     ensures fault { fault_of result ≡ why Sample (stage_of controller.old.phase) (I.meaning image.old).live }
     ensures words { IfOk result (FoundBy (by_words controller.old.program) controller.old (I.meaning image.old).inputs) }
@@ -54,7 +55,8 @@ pub fn glance<I: Image>(controller: &mut Controller, image: &mut I) -> Result<Ve
     }
 }
 
-/// One scan, and its verdict. An image that was live when it was sampled takes the delivery.
+/// One scan, and its verdict: an image that was live when it was sampled takes the delivery. Refused as sample is, with 21, 22 or
+/// 24 (docs/controller.md), and then controller and image are as they were.
 pub fn cycle<I: Image>(controller: &mut Controller, image: &mut I) -> Result<Verdict, Fault>
     ensures fault { fault_of result ≡ why Sample (stage_of controller.old.phase) (I.meaning image.old).live }
     ensures words { IfOk result (λ v. Cycled (by_words controller.old.program) controller.old (I.meaning image.old).inputs v

@@ -9,6 +9,7 @@ ghost use Rattle.plain.specs.Stages.{phase_refusal};
 ghost use Rattle.plain.specs.declared.calls.Call.TheVariants.{Deliver};
 ghost use Rattle.controller.specs.Standing.{stage_of};
 ghost use Rattle.controller.specs.Calls.{held_fault, due, in_phase, delivered as landed_as};
+ghost use Rattle.controller.specs.Resting.{LeftAtRest};
 ghost use Rattle.controller.specs.declared.phase.Phase.TheVariants.{Idle};
 
 use controller::controller::Controller;
@@ -16,8 +17,8 @@ use controller::scans::{Held, WorkedScan};
 use faults::Fault;
 use image::Image;
 
-/// Delivers a worked scan, and answers the frame. If the image is not live any more, the scan is abandoned: None. A scan of
-/// another controller comes back.
+/// Delivers a worked scan, and answers the frame; over an image that is not live any more, drops the scan: None. Refused with 23
+/// (docs/controller.md), and the token comes back.
 pub fn deliver_or_abandon<I: Image>(
     controller: &mut Controller,
     image: &mut I,
@@ -30,6 +31,11 @@ pub fn deliver_or_abandon<I: Image>(
         IfOk result (λ r. IfSome r (λ frame. frame ≡ due (by_chart c) controller.old.phase)) }
     ensures controller { OnOk result (controller.new ≡ (if (I.meaning image.old).live
         then landed_as controller.old.phase controller.old else in_phase Idle controller.old)) }
+    ensures rests { IfOk result (λ r. IfSome r (λ _. LeftAtRest (by_words controller.old.program) controller.old.phase
+        controller.new (I.meaning image.new).outputs)) }
+    ensures chart_rests { (c : Chart) → CompiledFrom c controller.old.program →
+        IfOk result (λ r. IfSome r (λ _. LeftAtRest (by_chart c) controller.old.phase controller.new
+        (I.meaning image.new).outputs)) }
     ensures refused { IfErr result (λ h. (controller.new ≡ controller.old) × (h.scan ≡ scan)) }
     ensures shown { IfOk result (λ r. IfSome r (λ frame. I.meaning image.new ≡ showing frame (I.meaning image.old))) }
     ensures unchanged { IfOk result (λ r. IfNone r (I.meaning image.new ≡ I.meaning image.old)) }

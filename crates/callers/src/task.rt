@@ -39,8 +39,8 @@ fn round<I: Image>(controller: &mut Controller, image: &mut I) -> Result<Verdict
     Ok(verdict)
 }
 
-/// So many scans, each followed by an advance. It stops at the first that is refused: with 22 behind a scan that was not stable,
-/// and with 24 when the image is not live.
+/// So many scans, each followed by an advance. It stops at the first that is refused: with 21 where a scan is open, with 22 behind
+/// a scan that was not stable, and with 24 when the image is not live (docs/controller.md).
 pub fn scan_task<I: Image>(
     controller: &mut Controller,
     image: &mut I,

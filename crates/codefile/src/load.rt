@@ -2,10 +2,10 @@
 ghost use Rattle.std.specs.Prelude.{◌≡◌, ◌*◌, ◌≤◌, length, IfOk, OnOk, Ok};
 ghost use Rattle.codefile.specs.File.{words_of, checked, contents};
 ghost use Rattle.codefile.specs.First.{FirstFault};
+ghost use Rattle.codefile.specs.Format.{longest_file};
 ghost use Rattle.codefile.specs.Loads.{Loads, code_in, no_code};
 
 use crate::directory::number;
-use crate::format::LONGEST_FILE;
 use crate::headed::Headed;
 use crate::program::Program;
 use faults::FileFault;
@@ -55,7 +55,7 @@ impl Program {
     pub fn load(&mut self, bytes: &[u8]) -> Result<(), FileFault>
         ensures loads { Loads bytes.now self.old self.new result }
         ensures first_fault { FirstFault bytes.now result }
-        ensures longest { OnOk result (length bytes.now ≤ LONGEST_FILE) }
+        ensures longest { OnOk result (length bytes.now ≤ longest_file) }
     {
         let file = Headed::read(bytes)?;
         file.check_words()?;

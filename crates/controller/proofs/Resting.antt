@@ -1,6 +1,9 @@
 -- What a delivery leaves is at rest, or halted with all off. Assumes nothing.
-use Rattle.std.proofs.Common.{◌≡◌, ℕ, Option, refl, sym, ap, ◌∙◌, subst, subst₂}
+use Rattle.std.proofs.Common.{◌≡◌, ℕ, Bool, true, false, if◌then◌else◌, Option, Ok, Err, Result, refl, sym, ap, ◌∙◌, subst, subst₂}
+use Rattle.faults.specs.declared.ImageFault.TheVariants.{NotLive}
+use Rattle.faults.specs.declared.ImageFault.{ImageFault}
 use Rattle.frames.specs.Edges.{edges_between}
+use Rattle.image.specs.Meaning.{Meaning, delivered, showing}
 use Rattle.evolution.specs.declared.state.State.{State}
 use Rattle.verdict.specs.declared.outcome.Outcome.{Outcome}
 use Rattle.verdict.specs.declared.outcome.Verdict.{Verdict}
@@ -30,3 +33,11 @@ at_rest b c d s previous frame outputs o h e shown =
 pub left_at_rest : (b : Behaviour) (c d : Controller) (p : Phase) (frame outputs : ℕ) (o : Outcome) → p ≡ Worked frame o → ComesTo b c.state c.previous frame o → d ≡ landed o.verdict o.state frame c → outputs ≡ delivered_frame b frame o → LeftAtRest b p d outputs
 left_at_rest b c d p frame outputs o e h l shown =
     subst (λ x. LeftAtRest b x d outputs) (sym e) (at_rest b c d c.state c.previous frame outputs o h l shown)
+
+-- ---- an image that took the frame shows it
+taken : (live : Bool) (frame old : ℕ) (u : Unit {0}) → ◌≡◌ {A = Result (Unit {0}) ImageFault} (Ok u) (if live then Ok tt else Err NotLive) → (if live then frame else old) ≡ frame
+taken true frame old u e = refl
+taken false frame old u e = cc
+
+pub shows : (m n : Meaning) (frame : ℕ) (u : Unit {0}) → ◌≡◌ {A = Result (Unit {0}) ImageFault} (Ok u) (delivered m) → n ≡ showing frame m → n.outputs ≡ frame
+shows m n frame u e s = ap (λ x. x.outputs) s ∙ taken m.live frame m.outputs u e

@@ -119,7 +119,7 @@ pub record Loaded (bytes : List ℕ) (c : Controller) : Type 0 where
   pub phase : c.phase ≡ Idle
 
 -- the file of a text is refused with 21 alone; accepted, the controller has the program of the text
-pub record LoadsText (text : List ℕ) (s : Stage) (r : Result (Unit {0}) Fault) (c : Controller) : Type 0 where
+pub record LoadsText {A : Type 0} (text : List ℕ) (s : Stage) (r : Result A Fault) (c : Controller) : Type 0 where
   pub refusal : fault_of r ≡ (if scan_open s then Some (OfController ScanOpen) else None)
   pub program : OnOk r (ProgramOf text c.program)
 

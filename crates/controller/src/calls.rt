@@ -139,6 +139,7 @@ impl Controller {
         ensures chart_comes { (c : Chart) → CompiledFrom c self.now.program →
             ComesTo (by_chart c) self.now.state self.now.previous frame outcome }
     {
+        // read, so that the proof has its range
         let _active = self.state.active;
         self.brought(frame, outcome)
     }
@@ -166,9 +167,10 @@ impl Controller {
         ensures words { IfOk result (λ frame. frame ≡ due (by_words self.old.program) self.old.phase) }
         ensures chart { (c : Chart) → CompiledFrom c self.old.program →
             IfOk result (λ frame. frame ≡ due (by_chart c) self.old.phase) }
-        ensures rests { IfOk result (λ outputs. LeftAtRest (by_words self.old.program) self.old.phase self.new outputs) }
+        ensures rests { OnOk result
+            (LeftAtRest (by_words self.old.program) self.old.phase self.new (I.meaning image.new).outputs) }
         ensures chart_rests { (c : Chart) → CompiledFrom c self.old.program →
-            IfOk result (λ outputs. LeftAtRest (by_chart c) self.old.phase self.new outputs) }
+            OnOk result (LeftAtRest (by_chart c) self.old.phase self.new (I.meaning image.new).outputs) }
         ensures controller { OnOk result (self.new ≡ delivered self.old.phase self.old) }
         ensures refused { IfErr result (λ h. (self.new ≡ self.old) × (h.scan ≡ scan)) }
         ensures shown { IfOk result (λ frame. I.meaning image.new ≡ showing frame (I.meaning image.old)) }

@@ -8,8 +8,8 @@ ghost use Rattle.controller.specs.Closing.{closing_refusal, closed};
 use crate::controller::Controller;
 use crate::scans::{Held, OpenScan};
 
-/// Spends the scan that a campaign left: works it, if that is to be done, and abandons it. A scan of another controller comes
-/// back with the fault.
+/// Spends the scan that a campaign left: works it, if that is to be done, and abandons it. Refused with 23 where that is not this
+/// controller's phase (docs/controller.md), and the token comes back.
 pub fn close(controller: &mut Controller, scan: OpenScan) -> Result<(), Held<OpenScan>>
     ensures fault { held_fault result ≡ closing_refusal scan (stage_of controller.old.phase) }
     ensures controller { OnOk result (controller.new ≡ closed scan controller.old) }

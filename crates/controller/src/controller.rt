@@ -14,7 +14,7 @@ use std::marker::Model;
 pub struct Controller {
     pub(crate) program: Program,
     pub(crate) state: State,
-    /// The frame of the last stable scan that was delivered since the start.
+    /// The frame of the last stable scan that was delivered since the last load or restart.
     pub(crate) previous: Option<u64>,
     pub(crate) phase: Phase,
 }
@@ -59,7 +59,7 @@ impl Controller {
         self.state
     }
 
-    /// The frame of the last stable scan that was delivered since the start, if there is one: edges are judged against it.
+    /// The frame of the last stable scan that was delivered since the last load or restart, if there is one: edges are judged against it.
     pub fn previous(&self) -> Option<u64>
         ensures { result ≡ self.now.previous }
     {

@@ -1,6 +1,7 @@
 //! Scan tokens. `sample` makes the first, `work` turns it into the second, and `deliver` or `abandon` takes that. A campaign
-//! makes a token for each call that wants one, also out of turn, and takes it back. They all do so by the functions of this
-//! file: no other code can make a token or take one apart.
+//! makes a token for each of its calls that wants one, also out of turn, and takes it back; it hands out that of the scan that
+//! is open in the end, which `close` works and abandons. All of these do so by the functions of this file, which no other crate
+//! can call: only this file can make a token or take one apart.
 ghost use Rattle.std.specs.Prelude.{◌≡◌};
 
 use faults::Fault;

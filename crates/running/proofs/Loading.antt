@@ -20,7 +20,7 @@ compiled_from text p c m h =
 
 begins_with : (text file : List ℕ) (n : ℕ) (c : Controller) → LoadsAs text n file → Loaded (take n file) c → ((a : Chart) → CompiledFrom a c.program → c.state ≡ (by_chart a).begins) → BeginsWith text c
 begins_with text file n c l k b =
-    let program = program_of_file text (take n file) c l k in record {
+    let program = program_of_file text (take n file) c l k.program in record {
       program = program;
       phase = k.phase;
       previous = k.previous;

@@ -36,6 +36,6 @@ refusal_of (Err f) s = Some (Code f)
 abbrev pub text_refusal : List ℕ → ℕ → Stage → Option Fault
 text_refusal text room s = refusal_of (compiled text room) s
 
--- the fault is not that the code file has no room
-abbrev pub HasRoom : Fault → Type 0
-HasRoom f = (needed : ℕ) → f ≢ Code (BufferTooShort needed)
+-- the fault is another than a buffer too short for the code file
+abbrev pub NotTooShort : Fault → Type 0
+NotTooShort f = (needed : ℕ) → f ≢ Code (BufferTooShort needed)

@@ -7,7 +7,7 @@ ghost use Rattle.evolution.specs.Chart.{Chart};
 ghost use Rattle.plain.specs.Behaviours.{by_words, by_chart};
 ghost use Rattle.plain.specs.Campaigns.{Campaign};
 ghost use Rattle.controller.specs.Standing.{stage_of, standing};
-ghost use Rattle.controller.specs.Calls.{fault_of, load_refusal, open_scan};
+ghost use Rattle.controller.specs.Calls.{fault_of, load_refusal, LoadsText, open_scan};
 ghost use Rattle.running.specs.Texts.{ChartOf};
 
 use controller::campaign::{Finished, campaign};
@@ -32,6 +32,8 @@ pub fn campaign_of_file<I: Image>(
     ensures program { OnOk result (code_of file.now ≡ Accepted (code_in controller.new.program)) }
     ensures words { IfOk result (λ f. Campaign I.meaning I.becomes (by_words controller.new.program) image.old
         (take f.made calls.now) log.old log.new (standing controller.new (I.meaning image.new).outputs) image.new) }
+    ensures text { (text : List ℕ) (room : ℕ) → compiled text room ≡ Accepted file.now →
+        LoadsText text (stage_of controller.old.phase) result controller.new }
     ensures chart { (text : List ℕ) (room : ℕ) (c : Chart) → compiled text room ≡ Accepted file.now → ChartOf text c →
         IfOk result (λ f. Campaign I.meaning I.becomes (by_chart c) image.old
         (take f.made calls.now) log.old log.new (standing controller.new (I.meaning image.new).outputs) image.new) }

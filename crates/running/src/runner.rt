@@ -9,7 +9,7 @@ ghost use Rattle.plain.specs.Charts.{Plain};
 ghost use Rattle.plain.specs.Stages.{scan_open};
 ghost use Rattle.controller.specs.Standing.{stage_of, standing, Fresh};
 ghost use Rattle.controller.specs.Calls.{fault_of, open_scan};
-ghost use Rattle.running.specs.Texts.{BeginsWith, ChartOf, text_refusal, HasRoom};
+ghost use Rattle.running.specs.Texts.{BeginsWith, ChartOf, text_refusal, NotTooShort};
 ghost use Rattle.running.specs.Endings.{ended};
 
 use crate::load::load_text;
@@ -45,10 +45,11 @@ impl Runner {
         })
     }
 
-    /// Compiles a chart text, loads its code file into the controller, and begins with it.
+    /// Compiles a chart text, loads its code file into the controller, and begins with it. Refused by the text, 1 to 12
+    /// (docs/faults.md), or else with 21; then the controller is as it was.
     pub fn load(&mut self, text: &[u8]) -> Result<(), Fault>
         ensures fault { fault_of result ≡ text_refusal text.now longest_file (stage_of self.old.controller.phase) }
-        ensures room { IfErr result HasRoom }
+        ensures room { IfErr result NotTooShort }
         ensures loaded { OnOk result (BeginsWith text.now self.new.controller) }
         ensures refused { OnErr result (self.new.controller ≡ self.old.controller) }
     {
@@ -60,7 +61,8 @@ impl Runner {
         )
     }
 
-    /// Loads a chart text, and makes as many of the calls as the log has room for.
+    /// Loads a chart text, and makes as many of the calls as the log has room for. Refused as `load` is, and then controller, image
+    /// and log are as they were.
     pub fn campaign<I: Image>(
         &mut self,
         text: &[u8],
@@ -69,7 +71,7 @@ impl Runner {
         log: &mut [Entry],
     ) -> Result<Finished, Fault>
         ensures fault { fault_of result ≡ text_refusal text.now longest_file (stage_of self.old.controller.phase) }
-        ensures room { IfErr result HasRoom }
+        ensures room { IfErr result NotTooShort }
         ensures refused { OnErr result ((self.new.controller ≡ self.old.controller) × (image.new ≡ image.old) × (log.new ≡ log.old)) }
         ensures count { IfOk result (λ f. f.made ≡ min (length calls.now) (length log.old)) }
         ensures scan { IfOk result (λ f. f.scan ≡ open_scan self.new.controller.phase) }
@@ -96,7 +98,8 @@ impl Runner {
         }
     }
 
-    /// Makes the calls as `campaign` does, and then ends the scan that is still open. Answers how many calls it made.
+    /// Makes the calls as `campaign` does, and then ends the scan that is still open. Answers how many calls it made. Refused as
+    /// `campaign` is.
     pub fn run_calls<I: Image>(
         &mut self,
         text: &[u8],
@@ -105,7 +108,7 @@ impl Runner {
         log: &mut [Entry],
     ) -> Result<usize, Fault>
         ensures fault { fault_of result ≡ text_refusal text.now longest_file (stage_of self.old.controller.phase) }
-        ensures room { IfErr result HasRoom }
+        ensures room { IfErr result NotTooShort }
         ensures refused { OnErr result ((self.new.controller ≡ self.old.controller) × (image.new ≡ image.old) × (log.new ≡ log.old)) }
         ensures count { IfOk result (λ n. n ≡ min (length calls.now) (length log.old)) }
         ensures closed { OnOk result (scan_open (stage_of self.new.controller.phase) ≡ false) }

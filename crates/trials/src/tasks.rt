@@ -1,14 +1,19 @@
 //! Scan tasks, and a scan that is delivered too late.
 use crate::charts::*;
+use callers::cycles::glance;
 use callers::ending::deliver_or_abandon;
+use callers::panel::Panel;
 use callers::task::{Stopped, scan_task};
 use controller::controller::Controller;
+use controller::phase::Phase;
+use evolution::state::State;
 use faults::{ControllerFault, Fault, ImageFault};
 use image::Image;
 use image::carriage::Carriage;
 use image::frame_list::FrameList;
 use std::process::Abort;
 use std::test::Fail;
+use verdict::outcome::Verdict;
 
 #[test]
 fn a_task_over_the_carriage(rt: HostRuntime) -> Result<(), Fail> {
@@ -75,5 +80,31 @@ fn a_scan_that_is_delivered_too_late(rt: HostRuntime) -> Result<(), Fail> {
         Err(_) => assert!(rt; false),
     }
     assert_eq!(rt; controller.restart(), Ok(()));
+    Ok(())
+}
+
+// The state, the previous frame and the phase.
+fn parts_of(controller: &Controller) -> (State, Option<u64>, Phase) {
+    (
+        controller.state(),
+        controller.previous(),
+        controller.phase(),
+    )
+}
+
+#[test]
+fn a_glance_that_leaves_no_trace(rt: HostRuntime) -> Result<(), Fail> {
+    let mut controller = controller_of(&rt, rt.alloc(), TWO_STEPS)?;
+    let mut panel = Panel::new();
+    assert_eq!(rt; scan_task(&mut controller, &mut panel, 1), Ok(()));
+    let before = parts_of(&controller);
+    panel.set_switches(1);
+    assert_eq!(rt; glance(&mut controller, &mut panel), Ok(Verdict::Stable(1)));
+    assert_eq!(rt; panel.lamps(), 0);
+    assert_eq!(rt; parts_of(&controller), before);
+    assert_eq!(rt; before.1, Some(0));
+    assert_eq!(rt; before.2, Phase::Idle);
+    assert_eq!(rt; scan_task(&mut controller, &mut panel, 1), Ok(()));
+    assert_eq!(rt; panel.lamps(), 3);
     Ok(())
 }
