@@ -40,7 +40,7 @@ pub fn no_call<I: Image>(
     }
 }
 
-// Samples and works, and lets the scan fall: what the work is answered.
+// A campaign of a sample and a work, whose scan is then closed: what the work is answered.
 fn answer_to_work<I: Image>(
     controller: &mut Controller,
     image: &mut I,

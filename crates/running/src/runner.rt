@@ -83,7 +83,7 @@ impl Runner {
         campaign(&mut self.controller, image, calls, log)
     }
 
-    // Ends the open scan with no delivery.
+    // Drops the open scan.
     #[tactic(auto, using(crate::proofs::Ending::ended_as))]
     fn end(&mut self, scan: OpenScan)
         requires { scan ≡ open_scan self.old.controller.phase }
