@@ -5,7 +5,7 @@ use evolution::state::State;
 use std::alloc::{AllocError, Global};
 use std::process::Abort;
 use std::test::Fail;
-use verdict::outcome::Verdict;
+use verdict::outcome::{Outcome, Verdict};
 use verdict::scan::scan;
 
 /// A frame, and what its scan comes to: the verdict, the output frame and the active steps of the state that follows.
@@ -26,25 +26,21 @@ pub(crate) const fn expect(inputs: u64, verdict: Verdict, outputs: u64, active: 
     }
 }
 
-/// Scans the frames of the rows one after the other, from the start state on, and compares. After an unstable
-/// scan the next one goes on from the state and the frame before it.
+/// Scans the frames of the rows one after the other, the first from the start state and with no frame before it, each later one
+/// from the state that the one before led to and with the frame of that one before it; and compares.
 pub(crate) fn judge_scans(rt: &impl Abort, program: &Program, rows: &[Row]) -> Result<(), Fail> {
     let mut state = State::start(program);
     let mut previous = None;
     for row in rows {
         let inputs = row.inputs;
-        let outcome = scan(program, state, previous, inputs);
-        if matches!(outcome.verdict, Verdict::Stable(_)) {
-            previous = Some(inputs);
-        }
-        state = outcome.state;
-        let found = expect(
-            inputs,
-            outcome.verdict,
-            state.outputs(program, inputs),
-            state.active,
-        );
+        let Outcome {
+            verdict,
+            state: next,
+        } = scan(program, state, previous, inputs);
+        let found = expect(inputs, verdict, next.outputs(program, inputs), next.active);
         assert_eq!(rt; found, *row);
+        state = next;
+        previous = Some(inputs);
     }
     Ok(())
 }
