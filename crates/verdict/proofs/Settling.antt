@@ -12,7 +12,7 @@ use Rattle.evolution.specs.Words.{ran, reached, kept}
 use Rattle.evolution.specs.Words as words
 use Rattle.verdict.specs.declared.outcome.Verdict.TheVariants.{Stable, Circling, Overlong}
 use Rattle.verdict.specs.Rules.{by_words}
-use Rattle.verdict.specs.Scans.{Rules, states, Scanned}
+use Rattle.verdict.specs.Scans.{Rules, states, Settled}
 use Rattle.verdict.proofs.Judging.{Follows, verdicts}
 use Rattle.verdict.proofs.Looping.{Before, before_first, before_next, found_stable, found_circle, found_neither}
 use Rattle.verdict.proofs.Scanning.{by_program}
@@ -83,16 +83,16 @@ goes_on p inputs edges s n x y xs k l h none = record {
 pub held_at : (n : ℕ) (xs : List State) (j : ℕ) (x : State) → j < length (take n xs) → (get_or (take n xs) j x ≡ get_or xs j x) × (j < n)
 held_at n xs j x l = let less : j < n = omega (arith, length-take n xs) in (get_or-take n xs j x less, less)
 
-pub stops : (rules : Rules) (edges : Edges) (s : State) (m : ℕ) → Fresh rules edges s m → 1 ≤ m → m ≤ 64 → rules.stable (reach rules edges s m) ≡ true → Scanned rules edges s (record { verdict = Stable m; state = reach rules edges s m })
-unfolding reach Fresh
+pub stops : (rules : Rules) (edges : Edges) (s : State) (m : ℕ) → Fresh rules edges s m → 1 ≤ m → m ≤ 64 → rules.stable (reach rules edges s m) ≡ true → Settled rules edges s (record { verdict = Stable m; state = reach rules edges s m })
+unfolding reach Fresh Settled
 stops rules edges s m f low few q = record { verdict = verdicts f.0 (Stable m) (found_stable f.1 low few q); state = refl }
 
-pub repeats : (rules : Rules) (edges : Edges) (s : State) (j k : ℕ) → Fresh rules edges s k → k ≤ 64 → rules.stable (reach rules edges s k) ≡ false → 1 ≤ j → j < k → reach rules edges s j ≡ reach rules edges s k → Scanned rules edges s (record { verdict = Circling j k; state = s })
-unfolding reach Fresh
+pub repeats : (rules : Rules) (edges : Edges) (s : State) (j k : ℕ) → Fresh rules edges s k → k ≤ 64 → rules.stable (reach rules edges s k) ≡ false → 1 ≤ j → j < k → reach rules edges s j ≡ reach rules edges s k → Settled rules edges s (record { verdict = Circling j k; state = s })
+unfolding reach Fresh Settled
 repeats rules edges s j k f few q low less e = record { verdict = verdicts f.0 (Circling j k) (found_circle f.0 f.1 few q low less e); state = refl }
 
-pub ends : (rules : Rules) (edges : Edges) (s : State) (m : ℕ) → Fresh rules edges s m → 64 < m → Fresh rules edges s m × Scanned rules edges s (record { verdict = Overlong; state = s })
-unfolding reach Fresh
+pub ends : (rules : Rules) (edges : Edges) (s : State) (m : ℕ) → Fresh rules edges s m → 64 < m → Fresh rules edges s m × Settled rules edges s (record { verdict = Overlong; state = s })
+unfolding reach Fresh Settled
 ends rules edges s m f l = (f, record { verdict = verdicts f.0 Overlong (found_neither l f.1); state = refl })
 
 -- what the loop's goals follow from

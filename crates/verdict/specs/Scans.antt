@@ -33,3 +33,7 @@ settled Overlong s = s 0
 pub record Scanned (rules : Rules) (edges : Edges) (s : State) (r : Outcome) : Type 0 where
   pub verdict : Verdicts rules.stable (states rules edges s) r.verdict
   pub state : r.state ≡ settled r.verdict (states rules edges s)
+
+-- the same in one word, which tactics do not open
+unfoldable pub Settled : Rules → Edges → State → Outcome → Type 0
+Settled rules edges s r = Scanned rules edges s r
