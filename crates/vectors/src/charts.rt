@@ -1,4 +1,5 @@
 //! Charts and files that run, and what their scans come to.
+use codefile::format::LONGEST_FILE;
 use codefile::program::Program;
 use compile::compiler::Compiler;
 use evolution::state::State;
@@ -49,7 +50,7 @@ pub(crate) fn judge_scans(rt: &impl Abort, program: &Program, rows: &[Row]) -> R
 pub(crate) fn program_of(rt: &impl Abort, heap: Global, text: &[u8]) -> Result<Program, Fail> {
     let mut compiler = Compiler::new(heap)?;
     let mut program = Program::new(heap)?;
-    let mut buffer = [0u8; 16428];
+    let mut buffer = [0u8; LONGEST_FILE];
     let answer = compiler.build(text, &mut buffer, &mut program);
     assert!(rt; answer.is_ok());
     Ok(program)

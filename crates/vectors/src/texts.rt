@@ -1,4 +1,5 @@
 //! Chart texts, judged by a compiler.
+use codefile::format::LONGEST_FILE;
 use compile::compiler::Compiler;
 use faults::{ChartFault, CodeFault, TextFault};
 use std::alloc::{AllocError, Global};
@@ -32,7 +33,7 @@ pub(crate) const fn in_chart(text: &str, fault: ChartFault) -> Case<'_> {
 
 /// The fault of a text, or None where it is accepted.
 pub(crate) fn fault_of(compiler: &mut Compiler, text: &[u8]) -> Option<CodeFault> {
-    let mut buffer = [0u8; 16428];
+    let mut buffer = [0u8; LONGEST_FILE];
     compiler.compile(text, &mut buffer).err()
 }
 
