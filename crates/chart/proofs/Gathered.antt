@@ -26,7 +26,7 @@ undeclared_more declared [] ms = refl
 undeclared_more declared (n ∷ ns) ms =
     ap (λ l. cond (has same_number n declared) [] (n ∷ []) ++ l) (undeclared_more declared ns ms) ∙ sym (append_assoc (cond (has same_number n declared) [] (n ∷ [])) (undeclared declared ns) (undeclared declared ms))
 
-uses_more : (declared ns ms : List Number) → uses declared (ns ++ ms) ≡ uses declared ns ++ uses declared ms
+pub uses_more : (declared ns ms : List Number) → uses declared (ns ++ ms) ≡ uses declared ns ++ uses declared ms
 uses_more declared ns ms = ap (map undeclared_step) (undeclared_more declared ns ms) ∙ simp map-append
 
 lists_more : (ns ms : List (List Number)) → lists (ns ++ ms) ≡ lists ns ++ lists ms

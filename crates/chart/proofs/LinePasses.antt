@@ -1,5 +1,5 @@
 -- The two passes over the lines of a text. Assumes nothing.
-use Rattle.std.proofs.Common.{◌≡◌, ℕ, Bool, ◌||◌, List, [], ◌∷◌, ◌++◌, Ok, Err, Option, Result, sym, refl, ap, ◌∙◌, subst, arith}
+use Rattle.std.proofs.Common.{◌≡◌, ℕ, Bool, ◌||◌, eqb, List, [], ◌∷◌, ◌++◌, Ok, Err, Option, Result, sym, refl, ap, ◌∙◌, subst, arith}
 use Rattle.faults.specs.declared.TextFault.{TextFault}
 use Rattle.faults.specs.declared.ChartFault.{ChartFault}
 use Rattle.lines.specs.declared.shape.Number.{Number}
@@ -8,6 +8,8 @@ use Rattle.lines.specs.Text.{put}
 use Rattle.chart.specs.Said.{steps_of, is_initial, all}
 use Rattle.chart.specs.Checks.{has, same_number, noted, faults_in, chart_faults, has_initial, first_of, judged, checked, on_lines}
 use Rattle.chart.specs.declared.set.NumberSet.{NumberSet}
+use Rattle.chart.specs.Numbers.{member}
+use Rattle.chart.specs.Sets.{Knows}
 use Rattle.chart.specs.First.{FirstFault}
 use Rattle.chart.specs.Seen.{Declared}
 use Rattle.chart.proofs.Least.{noted_append}
@@ -26,6 +28,16 @@ has_push m (l ∷ ls) t =
 pub initial_push : (ls : List Tree) (t : Tree) → has_initial (ls ++ t ∷ []) ≡ (has_initial ls || is_initial t)
 initial_push [] t = grind arith
 initial_push (l ∷ ls) t = rw (initial_push ls t) (grind arith)
+
+-- some numbers have the values of a set
+some_values : (vs : List ℕ) → (ns : List Number) × ((n : Number) → member n.value vs ≡ has same_number n ns)
+some_values [] = ([], λ n. refl)
+some_values (v ∷ vs) =
+    let rest = some_values vs in
+    (record { value = v; place = 0 } ∷ rest.0, λ n. ap (λ b. eqb n.value v || b) (rest.1 n))
+
+pub knows_some : (set : NumberSet) → (ns : List Number) × Knows set ns
+knows_some set = some_values set.numbers
 
 -- ---- the second pass: what is left, behind the lines before, gives the whole
 abbrev pub faults_from : List Number → List Tree → Option ChartFault → List Tree → Option ChartFault

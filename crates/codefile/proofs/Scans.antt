@@ -34,7 +34,7 @@ spoiled depth word h = cases (spoils depth word) h
     cases false h = absurd (none-some (after depth word) h)
 
 -- the first word, and the rest as the checker reads it
-words_more : (xs : List ℕ) → 4 ≤ length xs → words_of xs ≡ le_at xs 0 ∷ words_of (take (length xs - 4) (drop 4 xs))
+pub words_more : (xs : List ℕ) → 4 ≤ length xs → words_of xs ≡ le_at xs 0 ∷ words_of (take (length xs - 4) (drop 4 xs))
 words_more [] h = absurd (omega arith)
 words_more (a ∷ []) h = absurd (omega arith)
 words_more (a ∷ (b ∷ [])) h = absurd (omega arith)

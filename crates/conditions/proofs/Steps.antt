@@ -45,7 +45,7 @@ later_by : {k : TokenKind} {from rest : Rest} → Behind k from rest → Later f
 later_by h = record { within = omega (arith, behind_later h); same_end = h.same_end }
 
 -- a factor with a `!`
-bang_on : (h : Brackets) (s : Terms) (p : Factors) {from after : Rest} → Behind Bang from after → going (wants h s p) from ≡ going (primary h s p true) after
+pub bang_on : (h : Brackets) (s : Terms) (p : Factors) {from after : Rest} → Behind Bang from after → going (wants h s p) from ≡ going (primary h s p true) after
 bang_on h s p x = past Bang (wants h s p) (primary h s p true) x (λ at. refl)
 
 pub bang_read : {d : ℕ} {from after rest : Rest} {before now : Kept} → Behind Bang from after → ReadsPrimary true d after before rest now → ReadsFactor d from before rest now
@@ -92,7 +92,7 @@ atom_read {b = b} {a = a} r out = record { tree = tree.atom a; emitted = out; pa
 pub opened : (h : Brackets) (s : Terms) (p : Factors) (b : Bool) (at : ℕ) → deep h < 7 → begins h s p b at Open ≡ goes (wants (inside h s p b) no_terms no_factors)
 opened h s p b at lt = let z : leb 7 (deep h) ≡ false = grind (arith, nat_tests) in ap (λ q. cond q (fault (EighthBracket at)) (goes (wants (inside h s p b) no_terms no_factors))) z
 
-open_on : (h : Brackets) (s : Terms) (p : Factors) (b : Bool) {from after : Rest} → Behind Open from after → deep h < 7 → going (primary h s p b) from ≡ going (wants (inside h s p b) no_terms no_factors) after
+pub open_on : (h : Brackets) (s : Terms) (p : Factors) (b : Bool) {from after : Rest} → Behind Open from after → deep h < 7 → going (primary h s p b) from ≡ going (wants (inside h s p b) no_terms no_factors) after
 open_on h s p b x lt = past Open (primary h s p b) (wants (inside h s p b) no_terms no_factors) x (λ at. opened h s p b at lt)
 
 -- what stands behind a bracket's words
@@ -114,10 +114,10 @@ bracket_read {d} {w} {b} {before = before} o deeper r x out =
       later = later_behind o (later_later r.later (later_by x));
     }
 
-plus_on : (h : Brackets) (s : Terms) (t : Term) {from after : Rest} → Behind Plus from after → going (sign h s t) from ≡ going (wants h (terms (join s t)) no_factors) after
+pub plus_on : (h : Brackets) (s : Terms) (t : Term) {from after : Rest} → Behind Plus from after → going (sign h s t) from ≡ going (wants h (terms (join s t)) no_factors) after
 plus_on h s t x = past Plus (sign h s t) (wants h (terms (join s t)) no_factors) x (λ at. refl)
 
-dot_on : (h : Brackets) (s : Terms) (t : Term) {from after : Rest} → Behind Dot from after → going (sign h s t) from ≡ going (wants h s (factors t)) after
+pub dot_on : (h : Brackets) (s : Terms) (t : Term) {from after : Rest} → Behind Dot from after → going (sign h s t) from ≡ going (wants h s (factors t)) after
 dot_on h s t x = past Dot (sign h s t) (wants h s (factors t)) x (λ at. refl)
 
 -- a condition so far, and a term so far

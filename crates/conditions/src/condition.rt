@@ -86,6 +86,7 @@ fn term<'a>(input: Rest<'a>, depth: Depth, out: &mut WordList) -> Result<Rest<'a
     Ok(rest)
 }
 
+#[inline(always)]
 #[cycle(condition_factor_primary_term)]
 fn factor<'a>(input: Rest<'a>, depth: Depth, out: &mut WordList) -> Result<Rest<'a>, TextFault>
     ensures reads { MatchResult result
@@ -129,6 +130,7 @@ fn primary<'a>(
 }
 
 // A primary that is no bracket.
+#[inline(always)]
 fn operand<'a>(input: Rest<'a>) -> Result<(Atom, Rest<'a>), TextFault>
     requires { Lacks Open input.tokens.now }
     ensures { MatchResult result (λ p. ReadsAtom input.entry p.0 p.1) (λ f. NoAtom input.entry f) }

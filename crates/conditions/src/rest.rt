@@ -17,6 +17,7 @@ impl<'a> Rest<'a> {
     ghost use Rattle.conditions.specs.Readers.{Takes, NoneLeft, Behind, TakesOperand, LacksOperand};
 
     /// Where the next token begins.
+    #[inline(always)]
     pub fn place(self) -> usize
         ensures { result ≡ placed self.entry.tokens.now self.entry.end }
     {
@@ -27,6 +28,7 @@ impl<'a> Rest<'a> {
     }
 
     /// The next token, and what is left behind it.
+    #[inline(always)]
     pub fn next(self) -> Result<(Token, Rest<'a>), TextFault>
         ensures { MatchResult result (λ p. Takes self.entry p.0 p.1) (λ f. NoneLeft self.entry f) }
     {
@@ -36,6 +38,7 @@ impl<'a> Rest<'a> {
     }
 
     /// What stands behind the sign, if the next token is one.
+    #[inline(always)]
     pub fn behind(self, sign: TokenKind) -> Option<Rest<'a>>
         ensures { MatchOption result
             (Lacks sign self.entry.tokens.now)
@@ -51,6 +54,7 @@ impl<'a> Rest<'a> {
     }
 
     /// The number of an operand with this letter, and what is left behind it.
+    #[inline(always)]
     pub fn operand(self, letter: Letter) -> Result<(u8, Rest<'a>), TextFault>
         ensures { MatchResult result
             (λ p. TakesOperand letter self.entry p.0 p.1)
@@ -65,6 +69,7 @@ impl<'a> Rest<'a> {
 }
 
 /// A number up to 63.
+#[inline(always)]
 pub fn small(n: u16, place: usize) -> Result<u8, TextFault>
     ensures { MatchResult result
         (λ m. (m ≡ n) × (n ≤ 63))

@@ -1,4 +1,5 @@
 //! States.
+ghost use Rattle.std.specs.Prelude.{◌≡◌, ◌==◌, ◌&&◌};
 ghost use Rattle.std.proofs.Common.{rules};
 
 use search::Same;
@@ -11,5 +12,13 @@ pub struct State {
 }
 
 impl Same for State {
+    ghost sameness = { λ x y. (x.active == y.active && x.stored == y.stored) };
+
     ghost equal = { Prim.search rules };
+
+    ghost itself = { Prim.search rules };
+
+    fn same(&self, other: &State) -> bool {
+        self == other
+    }
 }

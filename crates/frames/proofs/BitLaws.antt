@@ -85,13 +85,17 @@ bit_rest (suc k) (suc m) x h l =
     let e : (2 ^ suc k - 1 - x) / 2 ≡ 2 ^ k - 1 - x / 2 = omega (arith, pow-suc 2 k, h) in
     same_high m (2 ^ suc k - 1 - x) _ e ∙ bit_rest k m (x / 2) (omega (arith, pow-suc 2 k, h)) (omega arith) ∙ sym (ap not (bit_suc m x))
 
--- a frame has no bit above its last
-pub bit_above : (n x : ℕ) → x < 2 ^ 64 → 64 ≤ n → bit n x ≡ false
+-- a number below 2 ^ k has no bit from k on
+pub bit_above : (k n x : ℕ) → x < 2 ^ k → k ≤ n → bit n x ≡ false
 unfolding bit
-bit_above n x hx h =
-    let wide : 2 ^ 64 ≤ 2 ^ n = pow_mono h in
+bit_above k n x hx h =
+    let wide : 2 ^ k ≤ 2 ^ n = pow_mono h in
     let below : x < 2 ^ n = omega arith in
     ap (λ (y : ℕ). eqb (y % 2) 1) (div-eq_of_lt below)
+
+-- a frame has no bit above its last
+pub frame_bit_above : (n x : ℕ) → x < 2 ^ 64 → 64 ≤ n → bit n x ≡ false
+frame_bit_above n x hx h = bit_above 64 n x hx h
 
 -- ---- a number is its bits
 low_from : (x y : ℕ) → bit 0 x ≡ bit 0 y → x % 2 ≡ y % 2

@@ -17,7 +17,7 @@ fn is_odd(frame: u64) -> bool
 }
 
 /// Whether the bit is on.
-#[tactic(auto, using(crate::proofs::BitLaws::bit_above))]
+#[tactic(auto, using(crate::proofs::BitLaws::frame_bit_above))]
 pub fn is_on(frame: u64, number: u8) -> bool
     ensures { result ≡ bit number frame }
 {

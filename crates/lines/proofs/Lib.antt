@@ -6,3 +6,4 @@ pub mod Along
 pub mod Sound
 pub mod Refusing
 pub mod WholeText
+pub mod Bounds

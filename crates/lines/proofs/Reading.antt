@@ -297,11 +297,11 @@ quiet_parts (code.Enter n a o) t ts rest s q = tt
 first_word : {from rest : Rest} {w : Word} {x : State} (t : Token) → t.kind ≡ Keyword w → Takes from t rest → ((at : ℕ) → step start at (Keyword w) ≡ goes x) → going start from ≡ going x rest
 first_word {from} {rest} {w} {x} t i h s = past (Keyword w) {from = from} {rest = rest} start x (record { heads = (t, i, h.split); same_end = h.same_end }) s
 
-begun : {from rest left : Rest} {w : Word} {x : State} {l : Line} (t : Token) (k : Kept) → t.kind ≡ Keyword w → Takes from t rest → ((at : ℕ) → step start at (Keyword w) ≡ goes x) → QuietFrom x rest l left → LineFrom [] start from l left k k
+pub begun : {from rest left : Rest} {w : Word} {x : State} {l : Line} (t : Token) (k : Kept) → t.kind ≡ Keyword w → Takes from t rest → ((at : ℕ) → step start at (Keyword w) ≡ goes x) → QuietFrom x rest l left → LineFrom [] start from l left k k
 unfolding pushed
 begun {l = l} t k i h s q = record { tree = q.tree; is = first_word t i h s ∙ q.is; shown = q.shown; parts = quiet_parts l q.tree _ _ q.shown q.quiet; emitted = sym (ap (λ is. pushed k is) q.quiet); same_end = q.same_end ∙ h.same_end }
 
-not_begun : {from rest : Rest} {w : Word} {x : State} {f : TextFault} (t : Token) → t.kind ≡ Keyword w → Takes from t rest → ((at : ℕ) → step start at (Keyword w) ≡ goes x) → NoLineFrom x rest f → NoLineFrom start from f
+pub not_begun : {from rest : Rest} {w : Word} {x : State} {f : TextFault} (t : Token) → t.kind ≡ Keyword w → Takes from t rest → ((at : ℕ) → step start at (Keyword w) ≡ goes x) → NoLineFrom x rest f → NoLineFrom start from f
 not_begun t i h s q = record { fails = first_word t i h s ∙ q.fails }
 
 -- what a reader of the rest of a line answers, behind the line's first word

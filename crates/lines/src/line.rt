@@ -19,6 +19,7 @@ use words::list::WordList;
 
 /// The line that the tokens begin with, and what is left behind its end. The words that test a transition are put behind
 /// those in `guards`. Refused, `guards` has the words that it had before, and some words behind them; which, is open.
+#[inline(always)]
 pub fn read_line<'a>(
     input: Rest<'a>,
     guards: &mut WordList,
@@ -37,6 +38,7 @@ pub fn read_line<'a>(
 
 /// The next line of a text and what is left behind it, or None where no token is left. What `guards` then has, `read_line`
 /// says.
+#[inline(always)]
 pub fn next_line<'a>(
     input: Rest<'a>,
     guards: &mut WordList,
@@ -50,6 +52,7 @@ pub fn next_line<'a>(
     Ok(Some((line, rest)))
 }
 
+#[inline(always)]
 #[tactic(auto, using(conditions::proofs::Pushing::grown_none))]
 fn read<'a>(input: Rest<'a>, guards: &mut WordList) -> Result<(Line<'a>, Rest<'a>), TextFault>
     ensures reads { MatchResult result

@@ -42,6 +42,7 @@ impl<T: Copy + Drop, const N: usize> Reserved<T, N> {
     }
 
     /// Puts an item behind the others, if there is room for it.
+    #[inline(always)]
     pub fn push(&mut self, item: T) -> Result<(), Full>
         ensures taken { length self.old < N → (result ≡ Taken tt) × (self.new ≡ self.old ++ item ∷ []) }
         ensures full { N ≤ length self.old → IsErr result × (self.new ≡ self.old) }

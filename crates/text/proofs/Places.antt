@@ -68,6 +68,10 @@ placed text = ⊎_elim over under (cases_lt 32768 (length text))
 pub places_rise : (text : List ℕ) → Rising 0 (tokens_of text).tokens (end_of (tokens_of text).stop (length text))
 places_rise text = (placed text).0
 
+-- the end is within the text
+pub end_within : (text : List ℕ) → end_of (tokens_of text).stop (length text) ≤ length text
+end_within text = (placed text).1
+
 -- each token stands before the end
 pub places_below : (text : List ℕ) → AllByRecursion (λ t. t.place < end_of (tokens_of text).stop (length text)) (tokens_of text).tokens
 places_below text = rising_below 0 (tokens_of text).tokens (end_of (tokens_of text).stop (length text)) (places_rise text)

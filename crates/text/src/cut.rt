@@ -16,6 +16,7 @@ use std::alloc::{AllocError, Global};
 const MOST_DIGITS: usize = 4;
 
 // The letter of an operand.
+#[inline(always)]
 fn letter(b: u8) -> Option<Letter>
     ensures { result ≡ letter_of b }
 {
@@ -28,6 +29,7 @@ fn letter(b: u8) -> Option<Letter>
 }
 
 // The token that is a byte of its own.
+#[inline(always)]
 fn sign(b: u8) -> Option<TokenKind>
     ensures { result ≡ sign_of b }
 {
@@ -46,6 +48,7 @@ fn sign(b: u8) -> Option<TokenKind>
 }
 
 // How many digits the bytes begin with. A function of its own, because a proof knows the count only by this contract.
+#[inline(always)]
 fn digit_run(bytes: &[u8]) -> usize
     ensures { result ≡ digits bytes.now }
 {
@@ -53,6 +56,7 @@ fn digit_run(bytes: &[u8]) -> usize
 }
 
 // How many letters a to z the bytes begin with.
+#[inline(always)]
 fn letter_run(bytes: &[u8]) -> usize
     ensures { result ≡ letters bytes.now }
 {
@@ -60,6 +64,7 @@ fn letter_run(bytes: &[u8]) -> usize
 }
 
 // The value of the digits that the bytes begin with, and how many they are, if they are not too many.
+#[inline(always)]
 fn numeral(bytes: &[u8]) -> Option<(u16, usize)>
     ensures { result ≡ numeral bytes.now }
 {
@@ -83,6 +88,7 @@ struct Rest<'a> {
 
 impl Rest<'_> {
     // The number that the bytes begin with, and its length.
+    #[inline(always)]
     fn number(&self) -> Result<(TokenKind, usize), TextFault>
         requires { 0 < digits self.now.bytes.now }
         ensures is { result ≡ number self.now.place self.now.bytes.now }
@@ -93,6 +99,7 @@ impl Rest<'_> {
     }
 
     // The word that the bytes begin with, and its length.
+    #[inline(always)]
     fn keyword(&self) -> Result<(TokenKind, usize), TextFault>
         requires { 0 < letters self.now.bytes.now }
         ensures is { result ≡ keyword self.now.place self.now.bytes.now }
@@ -104,6 +111,7 @@ impl Rest<'_> {
     }
 
     // The operand of this letter, which is the first of the bytes, and its length.
+    #[inline(always)]
     fn operand(&self, letter: Letter) -> Result<(TokenKind, usize), TextFault>
         requires { 0 < length self.now.bytes.now }
         ensures is { result ≡ operand letter self.now.place (drop 1 self.now.bytes.now) }
@@ -117,6 +125,7 @@ impl Rest<'_> {
     }
 
     // The token that the bytes begin with, and its length.
+    #[inline(always)]
     fn lexeme(&self) -> Result<(TokenKind, usize), TextFault>
         ensures is { result ≡ lexeme self.now.place self.now.bytes.now }
         ensures within { IfOk result (λ t. Within t.1 (length self.now.bytes.now)) }
@@ -134,6 +143,7 @@ impl Rest<'_> {
     }
 
     // What the bytes begin with: None for a blank, or a token with its length.
+    #[inline(always)]
     fn piece(&self) -> Result<Option<(TokenKind, usize)>, TextFault>
         ensures is { result ≡ piece self.now.place self.now.bytes.now }
         ensures within { IfOk result (λ p. IfSome p (λ t. Within t.1 (length self.now.bytes.now))) }
@@ -145,6 +155,7 @@ impl Rest<'_> {
     }
 
     // Moves on, past `n` bytes.
+    #[inline(always)]
     fn skip(&mut self, n: usize)
         requires bytes { n ≤ length self.old.bytes.now }
         requires place { self.old.place + n < 2 ^ 64 }

@@ -1,5 +1,5 @@
 //! Tests: chart texts and code files at each limit and one past it, charts and files that run, a fault on its way up,
-//! and a list's room.
+//! a list's room, and a search.
 #![tactic(auto)]
 
 #[cfg(test)]
@@ -11,6 +11,8 @@ pub mod ladder;
 mod room_tests;
 #[cfg(test)]
 mod scan_tests;
+#[cfg(test)]
+mod search_tests;
 #[cfg(test)]
 mod tests;
 #[cfg(test)]

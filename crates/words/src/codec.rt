@@ -16,6 +16,7 @@ struct Fields {
 }
 
 impl Fields {
+    #[inline(always)]
     fn new(operator: u8, area: u8, number: u8) -> Fields
         ensures { result ≡ record { operator = operator; area = area; number = number } }
     {
@@ -36,6 +37,7 @@ impl Fields {
         Fields::new((word >> 24) as u8, area as u8, number as u8)
     }
 
+    #[inline(always)]
     fn word(self) -> u32
         requires operators { self.operator < 16 }
         requires areas { self.area < 16 }
@@ -121,6 +123,7 @@ impl Fields {
 
 impl Operand {
     // The fields of an instruction that reads the operand.
+    #[inline(always)]
     fn fields(self, operator: u8) -> Fields
         ensures value { result
             ≡ record { operator = operator; area = operand_area self; number = operand_number self } }
@@ -141,6 +144,7 @@ impl Operand {
 }
 
 impl Instruction {
+    #[inline(always)]
     fn fields(self) -> Fields
         ensures value { result ≡ record { operator = operator_in self; area = area_in self; number = number_in self } }
         ensures operators { result.operator < 16 }
@@ -178,6 +182,7 @@ impl Instruction {
     }
 
     // The word of an instruction with any number, also above 63.
+    #[inline(always)]
     pub(crate) fn word(self) -> u32
         ensures { result ≡ word_of self }
     {

@@ -26,6 +26,7 @@ impl WordList {
     }
 
     /// Puts the instruction's word behind the others, or notes that there was no room for it.
+    #[inline(always)]
     #[tactic(auto, using(crate::proofs::Emitting::push_first_of), unfolding(crate::specs::Emitted::pushed))]
     pub fn push(&mut self, instruction: Instruction)
         ensures step { kept_in self.new ≡ pushed (kept_in self.old) (instruction ∷ []) }
@@ -35,6 +36,7 @@ impl WordList {
     }
 
     // Puts a word behind the others, or notes that there was no room for it.
+    #[inline(always)]
     fn put(&mut self, word: u32)
         ensures { kept_in self.new ≡ put (kept_in self.old) word }
     {
